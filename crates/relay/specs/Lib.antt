@@ -1,0 +1,6 @@
+pub mod Message
+pub mod Forward
+pub mod Write
+pub mod Append
+pub mod Editions
+pub mod RoundTrip

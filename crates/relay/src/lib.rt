@@ -1,0 +1,1 @@
+// Forwarding, writing and appending: the calls of the library.

@@ -1,0 +1,5 @@
+pub mod Bytes
+pub mod Outcome
+pub mod Agree
+pub mod Parts
+pub mod Walk

@@ -1,0 +1,74 @@
+// Numbers and texts in bytes: little-endian words, signed words, the search for a zero byte.
+ghost use mathlib.Core.Path.{_≡_};
+ghost use Prim.Native.Nat.{_<_};
+ghost use lib.ListN.{getD};
+ghost use Rattle.wire.specs.Bytes.{word, under, signed, bits32, le32, put, untilZero};
+
+// The byte at place i; 0 past the end.
+fn byte(s: &[u8], i: usize) -> u32
+    ensures { λ r. ⌜ (r ≡ getD (now (s .entry)) i 0) × (r < 256) ⌝ }
+{
+    if i < s.len() { s[i] as u32 } else { 0 }
+}
+
+// The unsigned number that s begins with; bytes past the end count as 0.
+pub fn word(s: &[u8]) -> u32
+    ensures { λ r. ⌜ r ≡ word (now (s .entry)) ⌝ }
+{
+    byte(s, 0) + 0x100 * byte(s, 1) + 0x1_0000 * byte(s, 2) + 0x100_0000 * byte(s, 3)
+}
+
+// As a signed number w is below n.
+pub fn under(n: u32, w: u32) -> bool
+    ensures { λ r. ⌜ r ≡ under n w ⌝ }
+{
+    if w < n { true } else { w >= 0x8000_0000 }
+}
+
+// The signed number with the bits of w.
+pub fn signed(w: u32) -> i32
+    ensures { λ r. ⌜ r ≡ signed w ⌝ }
+{
+    if w < 0x8000_0000 {
+        w as i32
+    } else {
+        !((0xFFFF_FFFF - w) as i32)
+    }
+}
+
+// The bits of a signed number.
+pub fn bits32(x: i32) -> u32
+    ensures { λ r. ⌜ r ≡ bits32 x ⌝ }
+{
+    if x < 0 { !((!x) as u32) } else { x as u32 }
+}
+
+// Stores the four bytes of w at a place, where they fit; else nothing changes.
+pub fn put_word(out: &mut [u8], at: usize, w: u32)
+    ensures { λ _. ⌜ now (out .exit) ≡ put at (le32 w) (now (out .entry)) ⌝ }
+{
+    if out.len() < 4 {
+        return;
+    }
+    if out.len() - 4 < at {
+        return;
+    }
+    out[at] = (w % 256) as u8;
+    out[at + 1] = (w / 0x100 % 256) as u8;
+    out[at + 2] = (w / 0x1_0000 % 256) as u8;
+    out[at + 3] = (w / 0x100_0000 % 256) as u8;
+}
+
+// How many bytes stand before the first zero byte; all where there is none.
+pub fn until_zero(s: &[u8]) -> usize
+    ensures { λ r. ⌜ r ≡ untilZero (now (s .entry)) ⌝ }
+{
+    let mut i = 0;
+    while i < s.len() {
+        if s[i] == 0 {
+            return i;
+        }
+        i += 1;
+    }
+    i
+}
