@@ -8,9 +8,9 @@ use native.Mathlib.Omega.{arith}
 use lib.ListN.{length, getD}
 use Rattle.wire.specs.Outcome.{ok}
 use Rattle.wire.specs.Bytes.{word}
-use Rattle.wire.specs.Walk.{Step, walk}
+use Rattle.wire.specs.Walk.{Step}
 use Rattle.wire.proofs.Outcome.{not-ok, ok-same, bound, check-ltb, check-eqb, check-under}
-use Rattle.bson.specs.Document.{frame, element, documentAt}
+use Rattle.bson.specs.Document.{frame, documentAt}
 
 -- n is the length that xs begins with, xs has so many bytes, and the last of them is zero
 pub record Framed (xs : List ℕ) (n : ℕ) : Type 0 where
@@ -52,7 +52,7 @@ pub document-framed : (levels at : ℕ) (xs : List ℕ) (count : ℕ) (r : Step 
 unfolding documentAt
 document-framed zero at xs count r e = not-ok e
 document-framed (suc levels) at xs count r e =
-    bound (frame at xs) _ e λ n en fn.
-    bound (walk (element (documentAt levels)) n _ _ count) _ fn λ total et ft.
+    bound _ _ e λ n en fn.
+    bound _ _ fn λ total et ft.
     let size : n ≡ r .size = ap (λ (x : Step ℕ). x .size) (ok-same ft) in
     rw size at (frame-is at xs n .0 en)

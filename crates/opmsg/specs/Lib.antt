@@ -4,3 +4,4 @@ pub mod Sections
 pub mod Names
 pub mod View
 pub mod Read
+pub mod Answers

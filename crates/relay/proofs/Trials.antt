@@ -14,10 +14,10 @@ use Rattle.bson.specs.Value.{sized, cstring, string, binary, boolean, regex, po
 use Rattle.bson.specs.Document.{maxLevels, maxElements, frame, head, inside, element, documentAt, sizeOf, elementSize}
 use Rattle.opmsg.specs.Flags.{common, kept, allKnown, checksummed, knows}
 use Rattle.opmsg.specs.Layout.{maxLength, checksumSize, sectionsEnd, sectionBytes, checksumDiffers}
-use Rattle.opmsg.specs.Sections.{maxSequences, bodyStart, bodySize, sequencesOf, nextDocument, bodySection, sequenceSection, sectionOf, sectionAt}
+use Rattle.opmsg.specs.Sections.{maxSequences, bodyStart, bodySize, sequencesOf, nextDocument, bodySection, sequenceRun, sequenceSection, sectionOf, sectionAt}
 use Rattle.opmsg.specs.Names.{sameText, among, distinct, elementNames, part, bodyNames, identifier, identifiers, texts}
 use Rattle.opmsg.specs.View.{noSequence, padded, viewOf}
-use Rattle.opmsg.specs.Read.{parts, read}
+use Rattle.opmsg.specs.Read.{header, flagged, parts, distinctNames, content, read}
 use Rattle.relay.specs.Message.{checksum, message, wholeLength, Written}
 use Rattle.relay.specs.Forward.{forwarded, forward}
 use Rattle.relay.specs.Append.{sequenceBytes, appended, append}
@@ -94,5 +94,5 @@ trials :
     ∷ refused 24 41
     ∷ refused 23 36
     ∷ []
-unfolding _>>=_ refuse walk word wordAt under signed bits32 untilZero oneOf sized cstring string binary boolean regex pointer codeWithScope table ruleIn maxLevels maxElements frame head inside element documentAt sizeOf elementSize common kept allKnown checksummed knows maxLength checksumSize sectionsEnd sectionBytes checksumDiffers maxSequences bodyStart bodySize sequencesOf nextDocument bodySection sequenceSection sectionOf sectionAt sameText among distinct elementNames part bodyNames identifier identifiers texts padded viewOf parts read le32 checksum message wholeLength forwarded forward sequenceBytes appended append
+unfolding _>>=_ refuse walk word wordAt under signed bits32 untilZero oneOf sized cstring string binary boolean regex pointer codeWithScope table ruleIn maxLevels maxElements frame head inside element documentAt sizeOf elementSize common kept allKnown checksummed knows maxLength checksumSize sectionsEnd sectionBytes checksumDiffers maxSequences bodyStart bodySize sequencesOf nextDocument bodySection sequenceRun sequenceSection sectionOf sectionAt sameText among distinct elementNames part bodyNames identifier identifiers texts padded viewOf header flagged parts distinctNames content read le32 checksum message wholeLength forwarded forward sequenceBytes appended append
 trials = refl

@@ -1,24 +1,19 @@
--- What demand 3 speaks of: editions, the kinds of a message's sections, relays one behind the other.
+-- What demand 3 speaks of: what an edition knows of a message, and what a relay forwards of it.
 -- Assumes nothing: these are definitions.
-use Prim.Native.Nat.{ℕ, _/_, _%_, _^_, _<_, _≤_}
-use mathlib.Core.Bool.{Bool, not}
+use Prim.Native.Nat.{ℕ, _<_, _≤_}
 use mathlib.Core.Path.{_≡_}
-use mathlib.Core.List.{List, [], _∷_}
+use mathlib.Core.List.{List, [], _∷_, _++_}
 use lib.ListN.{length, take}
-use lib.Dec.{T, eqb}
-use Rattle.wire.specs.Outcome.{Outcome, ok, refused, refuse, _>>=_}
-use Rattle.opmsg.specs.Flags.{kept, allKnown, knows}
+use lib.Dec.{T}
+use Rattle.wire.specs.Outcome.{Outcome, ok, refused}
+use Rattle.opmsg.specs.Flags.{bit, knows}
 use Rattle.opmsg.specs.Layout.{messageLength, flagWord}
-use Rattle.opmsg.specs.Sections.{Section, placeOf, kindOf, Parts}
+use Rattle.opmsg.specs.Sections.{Section, kindOf, Parts}
 use Rattle.opmsg.specs.Read.{parts, read}
 use Rattle.relay.specs.Message.{output}
 use Rattle.relay.specs.Forward.{forward}
 use Rattle.opmsg.specs.declared.Edition.{Edition}
 use Rattle.opmsg.specs.declared.View.{View}
-
--- bit i of a set of flag bits
-unfoldable pub bit : ℕ → ℕ → Bool
-bit i bits = eqb (bits / 2 ^ i % 2) 1
 
 -- the one edition knows every flag bit and every section kind that the other knows
 pub record Newer (new old : Edition) : Type 0 where
@@ -37,32 +32,26 @@ listed (refused number place) = []
 abbrev pub sectionsOf : Edition → List ℕ → List Section
 sectionsOf e s = listed (parts e s)
 
--- it knows every set bit of 0 to 15 of a message
-abbrev pub KnowsBits : Edition → List ℕ → Type 0
-KnowsBits e s = (i : ℕ) → i < 16 → T (bit i (flagWord s)) → T (bit i (e .bits))
+-- it knows every bit below n that is set in the message's flag word: below 16 for the required ones, below 32 for all
+abbrev pub KnowsBits : ℕ → Edition → List ℕ → Type 0
+KnowsBits n e s = (i : ℕ) → i < n → T (bit i (flagWord s)) → T (bit i (e .bits))
 
 -- it knows the kind of every section
 abbrev pub KnowsKinds : Edition → List Section → Type 0
 KnowsKinds e [] = Unit {0}
 KnowsKinds e (q ∷ qs) = T (knows e (kindOf q)) × KnowsKinds e qs
 
--- refuse the first section of a kind that the edition doesn't know
-unfoldable pub kindsKnown : Edition → List Section → Outcome (Unit {0})
-kindsKnown e [] = ok tt
-kindsKnown e (q ∷ qs) = do
-  _ ← refuse 10 (placeOf q) (not (knows e (kindOf q)))
-  kindsKnown e qs
+-- q is the first of the sections whose kind the edition doesn't know
+pub record FirstUnknown (e : Edition) (sections : List Section) (q : Section) : Type 0 where
+  pub before : List Section
+  pub after : List Section
+  pub split : sections ≡ before ++ (q ∷ after)
+  pub known : KnowsKinds e before
+  pub unknown : ¬ T (knows e (kindOf q))
 
 -- the view with another flag word
 unfoldable pub withFlags : View → ℕ → View
 withFlags v flags = record { length = v .length; «request_id» = v .«request_id»; «response_to» = v .«response_to»; flags = flags; body = v .body; «body_length» = v .«body_length»; «sequence_count» = v .«sequence_count»; sequences = v .sequences; elements = v .elements }
-
--- what the older edition answers to a message s of which the newer shows v
-unfoldable pub olderAnswer : (new old : Edition) → List ℕ → View → Outcome View
-olderAnswer new old s v = do
-  _ ← refuse 8 16 (not (allKnown 16 (old .bits) (flagWord s)))
-  _ ← kindsKnown old (sectionsOf new s)
-  ok (withFlags v (kept (old .bits) (v .flags)))
 
 -- an output with room for a message
 abbrev pub Room : List ℕ → List ℕ → Type 0

@@ -3,4 +3,5 @@ pub mod Forward
 pub mod Write
 pub mod Append
 pub mod Editions
+pub mod Demand3
 pub mod RoundTrip

@@ -1,15 +1,17 @@
--- What the round trip speaks of: a message made again from what its view shows.
+-- The round trip: a message made again from what its view shows.
 -- Assumes nothing: these are definitions.
-use Prim.Native.Nat.{ℕ, suc, _-_, _<_}
+use Prim.Native.Nat.{ℕ, suc, _-_}
 use mathlib.Core.List.{List, [], _∷_}
 use mathlib.Core.Path.{_≡_}
 use lib.ListN.{length, getD, take, drop}
-use lib.Dec.{T}
-use Rattle.opmsg.specs.Layout.{messageLength, flagWord}
+use Rattle.wire.specs.Outcome.{ok}
+use Rattle.wire.specs.Bytes.{Bytes}
+use Rattle.opmsg.specs.Layout.{messageLength}
+use Rattle.opmsg.specs.Read.{read}
 use Rattle.relay.specs.Message.{output}
 use Rattle.relay.specs.Write.{write}
 use Rattle.relay.specs.Append.{append}
-use Rattle.relay.specs.Editions.{bit}
+use Rattle.relay.specs.Editions.{KnowsBits, Room}
 use Rattle.opmsg.specs.declared.Edition.{Edition}
 use Rattle.opmsg.specs.declared.Sequence.{Sequence}
 use Rattle.opmsg.specs.declared.View.{View}
@@ -17,10 +19,6 @@ use Rattle.opmsg.specs.declared.View.{View}
 -- the body comes first: the kind byte of the first section is 0
 abbrev pub BodyFirst : List ℕ → Type 0
 BodyFirst s = getD s 20 0 ≡ 0
-
--- all set bits of the flag word are known
-abbrev pub KnowsAllBits : Edition → List ℕ → Type 0
-KnowsAllBits e s = (i : ℕ) → i < 32 → T (bit i (flagWord s)) → T (bit i (e .bits))
 
 -- the first messageLength bytes
 unfoldable pub firstMessage : List ℕ → List ℕ
@@ -44,3 +42,9 @@ remade e s v outs =
     let body = stretch s (v .body) (v .«body_length») in
     let m = firstMessage (output (write e (v .«request_id») (v .«response_to») (v .flags) body (length (outs 0))) (outs 0)) in
     appendedTo e s m (take (v .«sequence_count») (v .sequences)) (λ i. outs (suc i))
+
+-- a message whose body comes first and whose set bits are all known, written with its ids and flags from its view's body and appended to
+-- with its view's sequences in order, given room, gives its first messageLength bytes again
+abbrev pub RoundTrip : Type 0
+RoundTrip = (e : Edition) (s : List ℕ) (v : View) (outs : ℕ → List ℕ) → Bytes s → read e s ≡ ok v → BodyFirst s → KnowsBits 32 e s → ((i : ℕ) → Room s (outs i))
+    → remade e s v outs ≡ firstMessage s

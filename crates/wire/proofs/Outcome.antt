@@ -36,6 +36,12 @@ unfolding _>>=_ refuse
 passed number place true f h = not-ok h
 passed number place false f h = (refl, h)
 
+-- the last of the checks
+pub clear : (number place : ℕ) (t : Bool) {u : Unit {0}} → refuse number place t ≡ ok u → t ≡ false
+unfolding refuse
+clear number place true h = not-ok h
+clear number place false h = refl
+
 -- ---- what follows from the parts
 
 -- a check that passes

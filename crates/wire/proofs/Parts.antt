@@ -1,11 +1,12 @@
 -- Parts of a run of bytes, as code slices them and as it stores them.
 -- Assumes nothing.
 use Prim.Native.Nat.{ℕ, zero, suc, _+_, _-_, _≤_, _<_}
-use mathlib.Core.Path.{_≡_, refl, sym}
-use mathlib.Core.List.{List, [], _∷_, _++_}
+use mathlib.Core.Path.{_≡_, sym, _∙_}
+use mathlib.Core.List.{List, [], _∷_, _++_, append-assoc, append-nil}
 use native.Mathlib.Omega.{arith}
-use lib.ListN.{length, take, drop, set, length-drop}
-use lib.Seq.{drop-drop, take-all, take-nil, sets-eq}
+use lib.ListN.{length, take, drop, set, length-drop, drop-of-length-le}
+use lib.Seq.{drop-drop, take-all, take-length, take-nil, sets-eq}
+use borrow.Rule.Slice.PartMut.{putMid}
 use borrow.Author.Tests.{le-leb, lt-leb}
 use Rattle.wire.specs.Bytes.{put}
 
@@ -31,6 +32,14 @@ put-fits at xs old h = rw (put, le-leb _ _ h)
 pub put-too-long : (at : ℕ) (xs old : List ℕ) → length old < at + length xs → put at xs old ≡ old
 unfolding put
 put-too-long at xs old h = rw (put, lt-leb _ _ h)
+
+-- a whole that was copied into the part `&mut old[at..]`
+pub put-part : (at : ℕ) (xs old new : List ℕ) → at + length xs ≤ length old → new ≡ take (length xs) xs ++ drop (length xs) (take (length old - at) (drop at old))
+    → putMid at (length old - at) old new ≡ put at xs old
+put-part at xs old new h e =
+    let whole : new ≡ xs ++ drop (at + length xs) old = e ∙ rw (rest-part at old, take-length xs, drop-drop (length xs) at old) in
+    let none : drop (length old - at) (drop at old) ≡ [] = drop-drop (length old - at) at old ∙ drop-of-length-le old {i = at + (length old - at)} (omega arith) in
+    rw (none, append-nil new, whole, put-fits at xs old h) (sym (append-assoc (take at old) xs (drop (at + length xs) old)))
 
 -- four bytes stored one after the other
 pub put-four : (at a b c d : ℕ) (old : List ℕ) → at + 4 ≤ length old

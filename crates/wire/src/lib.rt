@@ -43,6 +43,19 @@ pub fn bits32(x: i32) -> u32
     if x < 0 { !((!x) as u32) } else { x as u32 }
 }
 
+// Stores the bytes s at a place, where they fit; else nothing changes.
+pub fn put(out: &mut [u8], at: usize, s: &[u8])
+    ensures { λ _. ⌜ now (out .exit) ≡ put at (now (s .entry)) (now (out .entry)) ⌝ }
+{
+    if out.len() < s.len() {
+        return;
+    }
+    if out.len() - s.len() < at {
+        return;
+    }
+    bytes::copy(s, &mut out[at..]);
+}
+
 // Stores the four bytes of w at a place, where they fit; else nothing changes.
 pub fn put_word(out: &mut [u8], at: usize, w: u32)
     ensures { λ _. ⌜ now (out .exit) ≡ put at (le32 w) (now (out .entry)) ⌝ }

@@ -1,0 +1,5 @@
+pub mod Xor
+pub mod Laws
+pub mod Words
+pub mod Tabulate
+pub mod Matched

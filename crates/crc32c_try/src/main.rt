@@ -1,0 +1,144 @@
+// Runs the published vectors of CRC-32C, those of RFC 3720, appendix B.4, among them, and writes each checksum.
+const ASCENDING: [u8; 32] = [
+    0x00,
+    0x01,
+    0x02,
+    0x03,
+    0x04,
+    0x05,
+    0x06,
+    0x07,
+    0x08,
+    0x09,
+    0x0A,
+    0x0B,
+    0x0C,
+    0x0D,
+    0x0E,
+    0x0F,
+    0x10,
+    0x11,
+    0x12,
+    0x13,
+    0x14,
+    0x15,
+    0x16,
+    0x17,
+    0x18,
+    0x19,
+    0x1A,
+    0x1B,
+    0x1C,
+    0x1D,
+    0x1E,
+    0x1F,
+];
+
+const DESCENDING: [u8; 32] = [
+    0x1F,
+    0x1E,
+    0x1D,
+    0x1C,
+    0x1B,
+    0x1A,
+    0x19,
+    0x18,
+    0x17,
+    0x16,
+    0x15,
+    0x14,
+    0x13,
+    0x12,
+    0x11,
+    0x10,
+    0x0F,
+    0x0E,
+    0x0D,
+    0x0C,
+    0x0B,
+    0x0A,
+    0x09,
+    0x08,
+    0x07,
+    0x06,
+    0x05,
+    0x04,
+    0x03,
+    0x02,
+    0x01,
+    0x00,
+];
+
+const READ_COMMAND: [u8; 48] = [
+    0x01,
+    0xC0,
+    0x00,
+    0x00,
+    0x00,
+    0x00,
+    0x00,
+    0x00,
+    0x00,
+    0x00,
+    0x00,
+    0x00,
+    0x00,
+    0x00,
+    0x00,
+    0x00,
+    0x14,
+    0x00,
+    0x00,
+    0x00,
+    0x00,
+    0x00,
+    0x04,
+    0x00,
+    0x00,
+    0x00,
+    0x00,
+    0x14,
+    0x00,
+    0x00,
+    0x00,
+    0x18,
+    0x28,
+    0x00,
+    0x00,
+    0x00,
+    0x00,
+    0x00,
+    0x00,
+    0x00,
+    0x02,
+    0x00,
+    0x00,
+    0x00,
+    0x00,
+    0x00,
+    0x00,
+    0x00,
+];
+
+// A name, a tab, the checksum in hexadecimal, and the end of the line.
+fn line(name: &[u8], checksum: u32) {
+    io::write_all(1, name);
+    io::write_all(1, b"\t");
+    io::print_hex(1, checksum as u64, 8);
+    io::write_all(1, b"\n");
+}
+
+fn main() {
+    line(b"nothing", crc32c::crc(b""));
+    line(b"123456789", crc32c::crc(b"123456789"));
+    line(b"32 bytes 00", crc32c::crc(&[0u8; 32]));
+    line(b"32 bytes FF", crc32c::crc(&[0xFFu8; 32]));
+    line(b"ascending", crc32c::crc(&ASCENDING));
+    line(b"descending", crc32c::crc(&DESCENDING));
+    line(b"iSCSI read command", crc32c::crc(&READ_COMMAND));
+    let first = crc32c::update(0xFFFF_FFFF, &READ_COMMAND[..19]);
+    line(
+        b"the same in two parts",
+        !crc32c::update(first, &READ_COMMAND[19..]),
+    );
+}

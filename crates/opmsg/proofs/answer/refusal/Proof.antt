@@ -1,0 +1,17 @@
+-- `opmsg::answer::refusal` meets its contract.
+-- Assumes nothing.
+use borrow.Author.Needs.{needs}
+use Rattle.opmsg.specs.View.{answer}
+use Rattle.opmsg.proofs.answer.refusal.Statement.{statement}
+use Rattle.opmsg.proofs.answer.refusal.Tie as tie
+
+returns : tie.Need-returns
+unfolding answer
+returns c = rw (c .no-view .ensures)
+
+pub refusal-spec : {M : Type 1} → statement M
+refusal-spec =
+    tie.close
+    (tie.spec
+    (λ c κs. search needs)
+    returns)
