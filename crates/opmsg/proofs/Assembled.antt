@@ -10,12 +10,12 @@ use Rattle.wire.specs.Bytes.{word, wordAt}
 use Rattle.wire.specs.Walk.{walk}
 use Rattle.wire.proofs.Outcome.{go-on, halt}
 use Rattle.wire.proofs.Walk.{walk-turns}
-use Rattle.opmsg.specs.Layout.{checksumSize, sectionsEnd, sectionBytes}
-use Rattle.opmsg.specs.Sections.{Parts, nothing, sectionAt}
-use Rattle.opmsg.specs.View.{viewOf}
-use Rattle.opmsg.specs.Read.{parts, distinctNames, content}
-use Rattle.opmsg.specs.declared.Edition.{Edition}
-use Rattle.opmsg.proofs.Section.{section-steady}
+use Rattle.protocol.specs.Layout.{checksumSize, sectionsEnd, sectionBytes}
+use Rattle.protocol.specs.Sections.{Parts, nothing, sectionAt}
+use Rattle.protocol.specs.View.{viewOf}
+use Rattle.protocol.specs.Read.{parts, distinctNames, content}
+use Rattle.protocol.specs.declared.Edition.{Edition}
+use Rattle.protocol.proofs.Section.{section-steady}
 
 -- s has n bytes, of which k are the checksum's
 module _ (e : Edition) (s : List ℕ) (n k : ℕ) (n-is : n ≡ word s) (k-is : k ≡ checksumSize (wordAt 16 s)) where

@@ -10,15 +10,16 @@ use Rattle.wire.specs.Outcome.{ok, refused}
 use Rattle.wire.specs.Walk.{Step, walk}
 use Rattle.wire.proofs.Parts.{rest-part}
 use Rattle.wire.proofs.Walk.{ends, goes-on, stops}
-use Rattle.opmsg.specs.Sections.{maxSequences, Section, body, sequence, bodyStart, bodySize, sequencesOf, Parts, nothing, sectionAt}
-use Rattle.opmsg.specs.Names.{part}
-use Rattle.opmsg.specs.View.{noSequence, padded}
-use Rattle.opmsg.specs.Answers.{Filled, none, partOf, Reaches, Carries, Shows}
-use Rattle.opmsg.specs.declared.Edition.{Edition}
-use Rattle.opmsg.specs.declared.Sequence.{Sequence}
+use Rattle.protocol.specs.Sections.{maxSequences, Section, body, sequence, bodyStart, bodySize, sequencesOf, Parts, nothing, sectionAt}
+use Rattle.protocol.specs.Names.{part}
+use Rattle.protocol.specs.View.{noSequence, padded}
+use Rattle.protocol.specs.Answers.{Filled, none, Shows}
+use Rattle.opmsg.specs.Answers.{partOf, Reaches, Carries}
+use Rattle.protocol.specs.declared.Edition.{Edition}
+use Rattle.protocol.specs.declared.Sequence.{Sequence}
 use Rattle.opmsg.specs.declared.sections.Part.{Part}
-use Rattle.opmsg.proofs.Section.{SectionRead, a-body, a-sequence, section-read}
-use Rattle.opmsg.proofs.Shown.{padded-set, sequences-append, Started, started-append, body-behind}
+use Rattle.protocol.proofs.Section.{SectionRead, a-body, a-sequence, section-read}
+use Rattle.protocol.proofs.Shown.{padded-set, sequences-append, Started, started-append, body-behind}
 
 -- ---- one section more
 

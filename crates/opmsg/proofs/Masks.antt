@@ -6,7 +6,7 @@ use native.Mathlib.Nat.{mod-one}
 use native.Mathlib.Omega.{arith}
 use lib.Bits.{bitAnd, and-step}
 use lib.Pow.{field, mod-mod-pow}
-use Rattle.opmsg.specs.Flags.{common}
+use Rattle.protocol.specs.Flags.{common}
 
 pub common-and : (k a b : ℕ) → common k a b ≡ bitAnd (a % 2 ^ k) b
 unfolding common

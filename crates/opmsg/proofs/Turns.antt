@@ -14,7 +14,7 @@ use Rattle.wire.proofs.Walk.{Advances, walk-turns}
 use Rattle.bson.specs.Document.{documentAt, maxLevels, told}
 use Rattle.bson.specs.declared.Walk.{Walk}
 use Rattle.bson.proofs.Frame.{Framed, document-framed}
-use Rattle.opmsg.specs.Sections.{Run, nextDocument}
+use Rattle.protocol.specs.Sections.{Run, nextDocument}
 use Rattle.opmsg.specs.Answers.{Reaches}
 use Rattle.opmsg.specs.declared.sections.Part.{Part}
 use Rattle.opmsg.proofs.Fill.{document-filled}

@@ -1,44 +1,28 @@
 -- What the answers of the private functions stand for in document 01's terms, and what those functions are given.
 -- Assumes nothing: these are definitions.
-use Prim.Native.Nat.{ℕ, _+_, _-_, _<_, _≤_, _*_, _/_, _%_, _^_}
-use mathlib.Core.List.{List, []}
+use Prim.Native.Nat.{ℕ, _+_, _-_, _≤_}
+use mathlib.Core.List.{List}
 use mathlib.Core.Path.{_≡_}
-use mathlib.Core.Bool.{true}
-use lib.ListN.{take, drop, getD}
-use lib.Bits.{bitAnd}
+use lib.ListN.{take, drop}
 use Rattle.wire.specs.Outcome.{Outcome, ok, refused}
 use Rattle.wire.specs.Walk.{Step, walk}
-use Rattle.wire.specs.Bytes.{word, untilZero}
-use Rattle.bson.specs.Document.{elementSize}
-use Rattle.opmsg.specs.Layout.{maxLength, messageLength, flagWord, checksumSize}
-use Rattle.opmsg.specs.Sections.{maxSequences, Section, body, sequence, bodyStart, bodySize, sequencesOf, Parts, nothing, behind, sectionAt}
-use Rattle.opmsg.specs.Sections as Sections
-use Rattle.opmsg.specs.Names.{part, among, distinct, elementNames, texts}
-use Rattle.opmsg.specs.View.{padded}
-use Rattle.opmsg.specs.declared.Edition.{Edition}
-use Rattle.opmsg.specs.declared.Sequence.{Sequence}
-use Rattle.opmsg.specs.declared.Verdict.{Verdict}
+use Rattle.protocol.specs.Layout.{maxLength, messageLength, flagWord, checksumSize}
+use Rattle.protocol.specs.Sections.{maxSequences, body, sequence, bodyStart, sequencesOf, Parts, nothing, behind, sectionAt}
+use Rattle.protocol.specs.Sections as Sections
+use Rattle.protocol.specs.Names.{part}
+use Rattle.protocol.specs.declared.Edition.{Edition}
+use Rattle.protocol.specs.declared.Verdict.{Verdict}
 use Rattle.opmsg.specs.declared.sections.Run.{Run}
 use Rattle.opmsg.specs.declared.sections.Part.{Part}
 use Rattle.opmsg.specs.declared.sections.Content.{Content}
-use Rattle.opmsg.specs.declared.Verdict.the-variants.{Accepted, Refused}
-use Rattle.opmsg.specs.declared.names.Survey.{Survey}
-
--- checks that are passed, or a refusal
-abbrev pub judged : Verdict → Outcome (Unit {0})
-judged Accepted = ok tt
-judged (Refused number place) = refused number place
+use Rattle.protocol.specs.declared.Verdict.the-variants.{Accepted, Refused}
+use Rattle.protocol.specs.Answers.{Shows, Filled}
 
 -- what is known of a message s whose header and flag word were accepted
 pub record Ready (s : List ℕ) : Type 0 where
   pub limit : messageLength s ≤ maxLength
   pub whole : messageLength s ≤ lib.ListN.length s
   pub ended : 20 + checksumSize (flagWord s) ≤ messageLength s
-
--- bytes that elements fill, one after the other
-pub data Filled : List ℕ → Type 0 where
-  none : Filled []
-  more : {xs : List ℕ} → 0 < elementSize xs → elementSize xs ≤ lib.ListN.length xs → Filled (drop (elementSize xs) xs) → Filled xs
 
 -- documents back to back
 abbrev pub ran : Run → Outcome Sections.Run
@@ -63,13 +47,6 @@ pub record Carries (p : Parts) (start number elements : ℕ) : Type 0 where
   pub number-is : lib.ListN.length (sequencesOf (p .sections)) ≡ number
   pub elements-is : p .elements ≡ elements
 
--- the numbers that code keeps of sections: the body's start and length, the table of sequences and their number
-pub record Shows (qs : List Section) (start size : ℕ) (table : List Sequence) (number : ℕ) : Type 0 where
-  pub start-is : bodyStart qs ≡ start
-  pub size-is : bodySize qs ≡ size
-  pub table-is : padded (sequencesOf qs) ≡ table
-  pub number-is : lib.ListN.length (sequencesOf qs) ≡ number
-
 -- all sections of xs, which start at 20: the definition's parts are those that code keeps; elements fill the body
 pub record Gathered (e : Edition) (xs : List ℕ) (c : Content) : Type 0 where
   pub parts : Parts
@@ -86,29 +63,3 @@ listed e xs c (Refused number place) = walk (sectionAt e) (lib.ListN.length xs) 
 
 abbrev pub Listed : Edition → List ℕ → Content → Type 0
 Listed e xs c = listed e xs c (c .verdict)
-
--- the name of the element at the start of xs
-unfoldable pub nameText : List ℕ → List ℕ
-nameText xs = take (untilZero (drop 1 xs)) (drop 1 xs)
-
--- the names of the elements of xs
-unfoldable pub namesOf : List ℕ → List (List ℕ)
-namesOf xs = texts (elementNames (lib.ListN.length xs) 0 xs)
-
--- where the mark of a text stands: by its length, its first bytes and its last ones
-unfoldable pub slotOf : List ℕ → ℕ
-slotOf t = (lib.ListN.length t + word t + 3 * word (drop (lib.ListN.length t - 4) t)) % 2039
-
--- a slot's bit in marks, of which each word has 64, is set
-abbrev pub Marked : List ℕ → ℕ → Type 0
-Marked marks slot = bitAnd (getD marks (slot / 64) 0) (2 ^ (slot % 64)) ≡ 2 ^ (slot % 64)
-
--- marks of texts: a text without a mark at its slot is none of them
-pub record Marks (ts : List (List ℕ)) (marks : List ℕ) : Type 0 where
-  pub size : lib.ListN.length marks ≡ 32
-  pub shows : (t : List ℕ) → among ts t ≡ true → Marked marks (slotOf t)
-
--- what is known of a body's elements xs, the first at a place: check 23, and the marks of the names where it is passed
-pub record Surveyed (at : ℕ) (xs : List ℕ) (s : Survey) : Type 0 where
-  pub is : judged (s .verdict) ≡ distinct 23 [] (elementNames (lib.ListN.length xs) at xs)
-  pub marked : s .verdict ≡ Accepted → Marks (namesOf xs) (s .marks)

@@ -1,20 +1,20 @@
 // Answers by value.
-use crate::Edition;
-use crate::Reading;
-use crate::Verdict;
-use crate::View;
 use crate::flags::kept;
 use crate::sections::Content;
 use crate::sections::no_sequence;
+use protocol::Edition;
+use protocol::Reading;
+use protocol::Verdict;
+use protocol::View;
 use wire::signed;
 use wire::word;
 ghost use mathlib.Core.Path.{_≡_};
 ghost use Prim.Native.Nat.{_+_, _^_, _<_, _≤_};
 ghost use lib.ListN.{length};
 ghost use Rattle.wire.specs.Outcome.{ok, refused};
-ghost use Rattle.opmsg.specs.Sections.{Parts};
-ghost use Rattle.opmsg.specs.View.{noView, viewOf, answer};
-ghost use Rattle.opmsg.specs.Answers.{Shows};
+ghost use Rattle.protocol.specs.Sections.{Parts};
+ghost use Rattle.protocol.specs.View.{noView, viewOf, answer};
+ghost use Rattle.protocol.specs.Answers.{Shows};
 
 fn no_view() -> View
     ensures { λ r. ⌜ r ≡ noView ⌝ }

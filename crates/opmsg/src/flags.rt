@@ -1,6 +1,6 @@
 // Flag words.
 ghost use mathlib.Core.Path.{_≡_};
-ghost use Rattle.opmsg.specs.Flags.{kept, allKnown, checksummed};
+ghost use Rattle.protocol.specs.Flags.{kept, allKnown, checksummed};
 
 // The flag word with its known bits alone.
 pub fn kept(bits: u32, flags: u32) -> u32

@@ -1,7 +1,8 @@
 // Checks 1 to 9: the header, the flag word and the checksum.
-use crate::Edition;
-use crate::Verdict;
 use crate::flags;
+use protocol::Edition;
+use protocol::Verdict;
+use protocol::refused;
 use wire::under;
 use wire::word;
 ghost use mathlib.Core.List.{[], _∷_};
@@ -9,18 +10,12 @@ ghost use mathlib.Core.Path.{_≡_};
 ghost use Prim.Native.Nat.{_+_, _≤_};
 ghost use lib.ListN.{length};
 ghost use Rattle.wire.specs.Bytes.{oneOf};
-ghost use Rattle.opmsg.specs.Layout.{maxLength, messageLength, checksumSize, checksumDiffers, flagWord};
-ghost use Rattle.opmsg.specs.Read.{header, flagged};
-ghost use Rattle.opmsg.specs.Answers.{judged};
+ghost use Rattle.protocol.specs.Layout.{maxLength, messageLength, checksumSize, checksumDiffers, flagWord};
+ghost use Rattle.protocol.specs.Read.{header, flagged};
+ghost use Rattle.protocol.specs.Answers.{judged};
 
 // The most bytes of a message.
 pub const LENGTH: u32 = 49_152;
-
-pub(crate) fn refused(number: u32, place: usize) -> Verdict
-    ensures { λ r. ⌜ r ≡ Verdict.Refused number place ⌝ }
-{
-    Verdict::Refused { number, place }
-}
 
 // An opcode of an older protocol.
 fn older(code: u32) -> bool

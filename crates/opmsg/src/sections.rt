@@ -1,8 +1,8 @@
 // Checks 10 to 21: the sections of a message, from left to right. A slice starts at the place `at` of the message, and ends below 2 ^ 31.
-use crate::Edition;
-use crate::Sequence;
-use crate::Verdict;
 use bson::Walk;
+use protocol::Edition;
+use protocol::Sequence;
+use protocol::Verdict;
 use wire::under;
 use wire::until_zero;
 use wire::word;
@@ -10,8 +10,8 @@ ghost use mathlib.Core.Path.{_≡_};
 ghost use Prim.Native.Nat.{ℕ, _+_, _^_, _<_, _≤_};
 ghost use lib.ListN.{length};
 ghost use Rattle.wire.specs.Walk.{walk};
-ghost use Rattle.opmsg.specs.Sections.{Parts, nextDocument, bodySection, sequenceRun, sequenceSection, sectionAt};
-ghost use Rattle.opmsg.specs.View.{noSequence};
+ghost use Rattle.protocol.specs.Sections.{Parts, nextDocument, bodySection, sequenceRun, sequenceSection, sectionAt};
+ghost use Rattle.protocol.specs.View.{noSequence};
 ghost use Rattle.opmsg.specs.Answers.{ran, partOf, Reaches, Carries, Listed};
 
 // The most sequences of a message.

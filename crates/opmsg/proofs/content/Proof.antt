@@ -5,11 +5,11 @@ use native.Mathlib.Omega.{arith}
 use borrow.Author.Needs.{needs}
 use Rattle.wire.specs.Bytes.{word, wordAt}
 use Rattle.wire.proofs.Parts.{rest-part}
-use Rattle.opmsg.specs.Layout.{checksumSize}
-use Rattle.opmsg.specs.Sections.{maxSequences}
-use Rattle.opmsg.specs.View.{answer}
-use Rattle.opmsg.specs.Answers.{judged}
-use Rattle.opmsg.proofs.Limits.{maxLength-small}
+use Rattle.protocol.specs.Layout.{checksumSize}
+use Rattle.protocol.specs.Sections.{maxSequences}
+use Rattle.protocol.specs.View.{answer}
+use Rattle.protocol.specs.Answers.{judged}
+use Rattle.protocol.proofs.Limits.{maxLength-small}
 use Rattle.opmsg.proofs.Assembled.{refused-sections, refused-names, shown}
 use Rattle.opmsg.proofs.content.Statement.{statement}
 use Rattle.opmsg.proofs.content.Tie as tie

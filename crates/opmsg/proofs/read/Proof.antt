@@ -3,10 +3,10 @@
 use mathlib.Core.Path.{_≡_, sym, ap, _∙_}
 use borrow.Author.Needs.{needs}
 use Rattle.wire.proofs.Outcome.{go-on, halt}
-use Rattle.opmsg.specs.View.{answer}
-use Rattle.opmsg.specs.Read.{read}
-use Rattle.opmsg.specs.Answers.{judged}
-use Rattle.opmsg.proofs.Accepted.{headed, flags-passed}
+use Rattle.protocol.specs.View.{answer}
+use Rattle.protocol.specs.Read.{read}
+use Rattle.protocol.specs.Answers.{judged}
+use Rattle.protocol.proofs.Accepted.{headed, flags-passed}
 use Rattle.opmsg.proofs.read.Statement.{statement}
 use Rattle.opmsg.proofs.read.Tie as tie
 

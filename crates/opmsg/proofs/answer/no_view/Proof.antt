@@ -1,8 +1,8 @@
 -- `opmsg::answer::no_view` meets its contract.
 -- Assumes nothing.
 use borrow.Author.Needs.{needs}
-use Rattle.opmsg.specs.Sections.{maxSequences}
-use Rattle.opmsg.specs.View.{padded, noView}
+use Rattle.protocol.specs.Sections.{maxSequences}
+use Rattle.protocol.specs.View.{padded, noView}
 use Rattle.opmsg.proofs.answer.no_view.Statement.{statement}
 use Rattle.opmsg.proofs.answer.no_view.Tie as tie
 

@@ -1,7 +1,7 @@
 -- `opmsg::answer::refusal` meets its contract.
 -- Assumes nothing.
 use borrow.Author.Needs.{needs}
-use Rattle.opmsg.specs.View.{answer}
+use Rattle.protocol.specs.View.{answer}
 use Rattle.opmsg.proofs.answer.refusal.Statement.{statement}
 use Rattle.opmsg.proofs.answer.refusal.Tie as tie
 

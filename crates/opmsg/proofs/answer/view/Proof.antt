@@ -6,7 +6,7 @@ use mir.Facts.{toZ-ofZ}
 use borrow.Author.Needs.{needs}
 use Rattle.wire.specs.Bytes.{wordAt}
 use Rattle.wire.proofs.Parts.{rest-part}
-use Rattle.opmsg.specs.View.{viewOf}
+use Rattle.protocol.specs.View.{viewOf}
 use Rattle.opmsg.proofs.answer.view.Statement.{statement}
 use Rattle.opmsg.proofs.answer.view.Tie as tie
 

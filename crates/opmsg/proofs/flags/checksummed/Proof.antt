@@ -1,7 +1,7 @@
 -- `opmsg::flags::checksummed` meets its contract.
 -- Assumes nothing.
 use mathlib.Core.Path.{refl}
-use Rattle.opmsg.specs.Flags.{checksummed}
+use Rattle.protocol.specs.Flags.{checksummed}
 use Rattle.opmsg.proofs.flags.checksummed.Statement.{statement}
 use Rattle.opmsg.proofs.flags.checksummed.Tie as tie
 

@@ -1,7 +1,7 @@
 -- `opmsg::flags::kept` meets its contract.
 -- Assumes nothing.
 use native.Mathlib.Nat.{mod-eq-of-lt}
-use Rattle.opmsg.specs.Flags.{kept}
+use Rattle.protocol.specs.Flags.{kept}
 use Rattle.opmsg.proofs.Masks.{common-and}
 use Rattle.opmsg.proofs.flags.kept.Statement.{statement}
 use Rattle.opmsg.proofs.flags.kept.Tie as tie

@@ -1,6 +1,6 @@
 -- `opmsg::flags::required_known` meets its contract.
 -- Assumes nothing.
-use Rattle.opmsg.specs.Flags.{allKnown}
+use Rattle.protocol.specs.Flags.{allKnown}
 use Rattle.opmsg.proofs.Masks.{common-and}
 use Rattle.opmsg.proofs.flags.required_known.Statement.{statement}
 use Rattle.opmsg.proofs.flags.required_known.Tie as tie

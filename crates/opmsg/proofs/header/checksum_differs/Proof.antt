@@ -7,7 +7,7 @@ use borrow.Author.Needs.{needs}
 use borrow.Author.Tests.{not-true, not-false}
 use Rattle.wire.specs.Bytes.{wordAt}
 use Rattle.wire.proofs.Parts.{rest-part}
-use Rattle.opmsg.specs.Layout.{checksumDiffers}
+use Rattle.protocol.specs.Layout.{checksumDiffers}
 use Rattle.opmsg.proofs.header.checksum_differs.Statement.{statement}
 use Rattle.opmsg.proofs.header.checksum_differs.Tie as tie
 

@@ -1,7 +1,7 @@
 -- `opmsg::header::checksum_size` meets its contract.
 -- Assumes nothing.
 use borrow.Author.Needs.{needs}
-use Rattle.opmsg.specs.Layout.{checksumSize}
+use Rattle.protocol.specs.Layout.{checksumSize}
 use Rattle.opmsg.proofs.header.checksum_size.Statement.{statement}
 use Rattle.opmsg.proofs.header.checksum_size.Tie as tie
 

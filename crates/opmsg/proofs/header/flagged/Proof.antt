@@ -7,8 +7,8 @@ use borrow.Author.Tests.{lt-ltb, le-ltb, not-true, not-false}
 use Rattle.wire.specs.Outcome.{refuse, _>>=_}
 use Rattle.wire.specs.Bytes.{word, wordAt}
 use Rattle.wire.proofs.Parts.{rest-part}
-use Rattle.opmsg.specs.Read.{flagged}
-use Rattle.opmsg.proofs.Limits.{checksum-small}
+use Rattle.protocol.specs.Read.{flagged}
+use Rattle.protocol.proofs.Limits.{checksum-small}
 use Rattle.opmsg.proofs.header.flagged.Statement.{statement}
 use Rattle.opmsg.proofs.header.flagged.Tie as tie
 

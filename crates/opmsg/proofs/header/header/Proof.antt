@@ -5,8 +5,8 @@ use borrow.Author.Tests.{lt-ltb, le-ltb, eq-eqb, ne-eqb}
 use Rattle.wire.specs.Outcome.{refuse, _>>=_}
 use Rattle.wire.specs.Bytes.{wordAt}
 use Rattle.wire.proofs.Parts.{rest-part}
-use Rattle.opmsg.specs.Layout.{maxLength}
-use Rattle.opmsg.specs.Read.{header}
+use Rattle.protocol.specs.Layout.{maxLength}
+use Rattle.protocol.specs.Read.{header}
 use Rattle.opmsg.proofs.header.header.Statement.{statement}
 use Rattle.opmsg.proofs.header.header.Tie as tie
 

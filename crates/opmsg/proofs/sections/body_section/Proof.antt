@@ -5,7 +5,7 @@ use borrow.Author.Needs.{needs}
 use borrow.Author.Tests.{lt-ltb, le-ltb}
 use Rattle.wire.specs.Outcome.{refuse, _>>=_}
 use Rattle.wire.proofs.Parts.{rest-part}
-use Rattle.opmsg.specs.Sections.{bodySection}
+use Rattle.protocol.specs.Sections.{bodySection}
 use Rattle.opmsg.proofs.Turns.{body-reaches}
 use Rattle.opmsg.proofs.sections.body_section.Statement.{statement}
 use Rattle.opmsg.proofs.sections.body_section.Tie as tie

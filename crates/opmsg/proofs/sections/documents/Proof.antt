@@ -9,7 +9,7 @@ use Rattle.wire.proofs.Parts.{rest-part}
 use borrow.Author.Needs.{needs}
 use Rattle.wire.specs.Walk.{walk}
 use Rattle.wire.proofs.Walk.{ends, goes-on, stops}
-use Rattle.opmsg.specs.Sections.{nextDocument}
+use Rattle.protocol.specs.Sections.{nextDocument}
 use Rattle.opmsg.proofs.Turns.{runOf, past-framed, next-past, next-refused, run-turns}
 use Rattle.opmsg.proofs.sections.documents.Statement.{statement}
 use Rattle.opmsg.proofs.sections.documents.Tie as tie

@@ -3,8 +3,8 @@
 use borrow.Author.Needs.{needs}
 use borrow.Author.Tests.{eq-eqb, ne-eqb, not-true, not-false}
 use Rattle.wire.specs.Outcome.{refuse, _>>=_}
-use Rattle.opmsg.specs.Flags.{knows}
-use Rattle.opmsg.specs.Sections.{sectionOf, sectionAt}
+use Rattle.protocol.specs.Flags.{knows}
+use Rattle.protocol.specs.Sections.{sectionOf, sectionAt}
 use Rattle.opmsg.proofs.sections.section.Statement.{statement}
 use Rattle.opmsg.proofs.sections.section.Tie as tie
 

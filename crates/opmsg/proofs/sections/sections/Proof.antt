@@ -4,7 +4,7 @@ use Prim.Native.Nat.{_-_}
 use native.Mathlib.Omega.{arith}
 use lib.ListN.{length}
 use borrow.Author.Needs.{needs}
-use Rattle.opmsg.specs.Sections.{maxSequences}
+use Rattle.protocol.specs.Sections.{maxSequences}
 use Rattle.opmsg.proofs.Gather.{Passing, begins, gathered, refuses, adds-body, adds-sequence, has-room}
 use Rattle.opmsg.proofs.sections.sections.Statement.{statement}
 use Rattle.opmsg.proofs.sections.sections.Tie as tie

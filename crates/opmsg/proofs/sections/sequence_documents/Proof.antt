@@ -5,7 +5,7 @@ use mathlib.Core.Path.{_≡_}
 use native.Mathlib.Omega.{arith}
 use borrow.Author.Needs.{needs}
 use Rattle.wire.specs.Outcome.{_>>=_}
-use Rattle.opmsg.specs.Sections.{sequenceRun}
+use Rattle.protocol.specs.Sections.{sequenceRun}
 use Rattle.opmsg.proofs.sections.sequence_documents.Statement.{statement}
 use Rattle.opmsg.proofs.sections.sequence_documents.Tie as tie
 

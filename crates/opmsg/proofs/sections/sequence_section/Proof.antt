@@ -10,7 +10,7 @@ use Rattle.wire.specs.Outcome.{refuse, _>>=_}
 use Rattle.wire.specs.Bytes.{untilZero}
 use Rattle.wire.proofs.Bytes.{under-false}
 use Rattle.wire.proofs.Parts.{rest-part}
-use Rattle.opmsg.specs.Sections.{maxSequences, sequenceSection}
+use Rattle.protocol.specs.Sections.{maxSequences, sequenceSection}
 use Rattle.opmsg.proofs.sections.sequence_section.Statement.{statement}
 use Rattle.opmsg.proofs.sections.sequence_section.Tie as tie
 

@@ -1,0 +1,220 @@
+-- The message with a front of its sections: it is what writing gives for the body alone, and what appending gives with one section more.
+-- Assumes nothing.
+use Prim.Native.Nat.{ℕ, _+_, _-_, _^_, _<_, _≤_}
+use mathlib.Core.Bool.{Bool, true, false}
+use mathlib.Core.Path.{_≡_, refl, sym, ap, _∙_}
+use mathlib.Core.List.{List, _∷_, _++_, append-nil}
+use native.Mathlib.Omega.{arith}
+use native.Mathlib.Nat.{mod-eq-of-lt}
+use lib.ListN.{length, take, drop, length-append, length-drop, take-append-drop}
+use lib.Seq.{take-add, take-at, take-take, drop-drop, length-take-le}
+use borrow.Author.Tests.{le-ltb, lt-leb, eq-eqb, ne-eqb}
+use Rattle.wire.specs.Outcome.{ok, refuse, _>>=_}
+use Rattle.wire.specs.Walk.{walk}
+use Rattle.wire.specs.Bytes.{Bytes, word, wordAt, le32, signed, untilZero}
+use Rattle.wire.proofs.Bytes.{bytes-drop, word-lt, word-le32, le32-word, bits32-signed, wordAt-front}
+use Rattle.wire.proofs.Agree.{inner-take}
+use Rattle.wire.proofs.Walk.{walk-turns}
+use Rattle.protocol.specs.Flags.{kept, knows, checksummed}
+use Rattle.protocol.specs.Layout.{maxLength, messageLength, flagWord, sectionsEnd, sectionBytes}
+use Rattle.protocol.specs.Sections.{maxSequences, Parts, nothing, bodyStart, sequencesOf, sectionAt}
+use Rattle.protocol.specs.View.{viewOf}
+use Rattle.protocol.specs.Read.{parts, read}
+use Rattle.message.specs.Message.{checksum, message, wholeLength, output}
+use Rattle.message.specs.Write.{written, write}
+use Rattle.message.specs.Append.{sequenceBytes, appended, append}
+use Rattle.message.specs.Editions.{Room}
+use Rattle.message.specs.RoundTrip.{firstMessage}
+use Rattle.protocol.specs.declared.Edition.{Edition}
+use Rattle.protocol.specs.declared.View.{View}
+use Rattle.protocol.proofs.Accepted.{Differ, reads, accepted}
+use Rattle.protocol.proofs.Limits.{maxLength-small}
+use Rattle.protocol.proofs.Section.{section-steady}
+use Rattle.protocol.proofs.Bits.{Known, known-allKnown, of-known}
+use Rattle.message.proofs.Message.{size-with, size-without, checksum-with, checksum-without, right-checksum, Headed, message-header, message-flags, message-end, message-sections, message-length, message-sound, stated-length, stated-end}
+
+-- the message s with sections ys
+abbrev pub made : List ℕ → List ℕ → List ℕ
+made s ys = appended s (flagWord s) ys
+
+module _ (e : Edition) (s : List ℕ) (v : View) (h : read e s ≡ ok v) (b : Bytes s) (known : Known 32 (flagWord s) (e .bits)) where
+  flags-lt : flagWord s < 2 ^ 32
+  unfolding wordAt
+  flags-lt = word-lt (drop 16 s) (bytes-drop 16 s b)
+
+  pub flags-kept : kept (e .bits) (flagWord s) ≡ flagWord s
+  unfolding kept
+  flags-kept = of-known 32 (flagWord s) (e .bits) known ∙ mod-eq-of-lt flags-lt
+
+  rest-length : length (take 12 (drop 4 s)) ≡ 12
+  rest-length = length-take-le 12 (drop 4 s) (rw length-drop (omega (arith, reads h .sound)))
+
+  -- a front of the sections
+  module _ (ys : List ℕ) (l : length ys ≤ length (sectionBytes s)) where
+    abbrev header : List ℕ
+    header = le32 (wholeLength (flagWord s) ys) ++ take 12 (drop 4 s)
+
+    pub made-fits : wholeLength (flagWord s) ys ≤ messageLength s
+    unfolding wholeLength
+    made-fits = omega (arith, stated-length s (reads h .sound))
+
+    made-limit : wholeLength (flagWord s) ys ≤ maxLength
+    made-limit = omega (arith, made-fits, reads h .sound .limit)
+
+    made-headed : Headed header (flagWord s) ys
+    unfolding wordAt le32
+    made-headed = record {
+      sixteen = rw rest-length;
+      stated = word-le32 (wholeLength (flagWord s) ys) _ (omega (arith, made-limit, maxLength-small));
+      small = flags-lt;
+    }
+
+    made-opcode : wordAt 12 header ≡ 2013
+    unfolding wordAt le32
+    made-opcode =
+        sym (wordAt-front 8 (take 12 (drop 4 s)) (drop 12 (drop 4 s)) (omega (arith, rest-length)))
+        ∙ ap (wordAt 8) (take-append-drop 12 (drop 4 s)) ∙ ap word (drop-drop 8 4 s) ∙ reads h .sound .opcode
+
+    pub made-flags : flagWord (made s ys) ≡ flagWord s
+    unfolding appended
+    made-flags = message-flags header (flagWord s) ys made-headed
+
+    pub made-sections : sectionBytes (made s ys) ≡ ys
+    unfolding appended
+    made-sections = message-sections header (flagWord s) ys made-headed
+
+    made-rest : take 12 (drop 4 (made s ys)) ≡ take 12 (drop 4 s)
+    unfolding appended le32
+    made-rest =
+        sym (inner-take 12 4 16 (made s ys) (omega arith))
+        ∙ ap (λ (m : List ℕ). take 12 (drop 4 m)) (message-header header (flagWord s) ys made-headed)
+        ∙ take-take 12 12 (drop 4 s) (omega arith)
+
+    -- appending to it gives it with other sections
+    pub appended-made : (zs : List ℕ) → appended (made s ys) (flagWord s) zs ≡ made s zs
+    appended-made zs = unfold appended in rw made-rest
+
+    -- it is read as its sections are
+    pub made-read : (p : Parts) → walk (sectionAt e) (length ys) 20 ys nothing ≡ ok p → 0 < bodyStart (p .sections) → Differ ys (p .sections)
+        → read e (made s ys) ≡ ok (viewOf e (made s ys) p)
+    unfolding parts appended
+    made-read p w i d =
+        let g = made-headed in
+        let a : parts e (made s ys) ≡ ok p =
+        rw (message-end header (flagWord s) ys g, message-sections header (flagWord s) ys g)
+        (walk-turns (sectionAt e) (section-steady e .advances) (20 + length ys) (length ys) 20 ys nothing (omega arith) (omega arith) ∙ w) in
+        accepted e (made s ys) (message-sound header (flagWord s) ys g made-limit made-opcode) (rw made-flags (reads h .bits)) p a
+        (ne-eqb (bodyStart (p .sections)) 0 (λ z. omega arith)) (rw made-sections d)
+
+    -- it is the first message of an output that begins with it
+    pub first-made : (r : List ℕ) → firstMessage (made s ys ++ r) ≡ made s ys
+    unfolding firstMessage appended
+    first-made r =
+        let g = made-headed in
+        let a : length (made s ys) ≡ messageLength (made s ys) = message-length header (flagWord s) ys g in
+        let k = message-sound header (flagWord s) ys g made-limit made-opcode in
+        let c : 4 ≤ length (made s ys) = omega (arith, k .least) in
+        rw (wordAt-front 0 (made s ys) r c) (take-at (made s ys) r (messageLength (made s ys)) a)
+
+  -- one sequence is appended
+  module _ (ys name documents out : List ℕ) (p : Parts) (w : View) (l : length (ys ++ sequenceBytes name documents) ≤ length (sectionBytes s)) (room : Room s out)
+      (k : knows e 1 ≡ true) (c : length (sequencesOf (p .sections)) < maxSequences) (n : 0 < length name) (z : untilZero name ≡ length name)
+      (before : read e (made s ys) ≡ ok (viewOf e (made s ys) p)) (after : read e (made s (ys ++ sequenceBytes name documents)) ≡ ok w) where
+    append-answers : append e (made s ys) name documents (length out) ≡ ok (record { view = w; bytes = made s (ys ++ sequenceBytes name documents) })
+    unfolding append _>>=_ refuse viewOf
+    append-answers =
+        let i : length ys ≤ length (sectionBytes s) = omega (arith, length-append ys (sequenceBytes name documents)) in
+        let zs = ys ++ sequenceBytes name documents in
+        rw (
+          before,
+          k,
+          lt-leb maxSequences (length (sequencesOf (p .sections))) c,
+          ne-eqb (length name) 0 (λ i. omega arith),
+          z,
+          le-ltb (length name) (length name) (omega arith),
+          made-flags ys i,
+          flags-kept,
+          made-sections ys i,
+          le-ltb maxLength (wholeLength (flagWord s) zs) (omega (arith, made-fits zs l, reads h .sound .limit)),
+          le-ltb (length out) (wholeLength (flagWord s) zs) (omega (arith, made-fits zs l)),
+          appended-made ys i zs,
+          after,
+        )
+
+    pub append-made : firstMessage (output (append e (made s ys) name documents (length out)) out) ≡ made s (ys ++ sequenceBytes name documents)
+    unfolding output
+    append-made = rw append-answers (first-made (ys ++ sequenceBytes name documents) l _)
+
+  -- ---- the message with its body alone is what writing gives
+
+  word-bytes-at : (k : ℕ) → k + 4 ≤ 20 → le32 (wordAt k s) ≡ take 4 (drop k s)
+  unfolding wordAt
+  word-bytes-at k l = le32-word (drop k s) (bytes-drop k s b) (rw length-drop (omega (arith, reads h .sound)))
+
+  ids-bytes : le32 (wordAt 4 s) ++ (le32 (wordAt 8 s) ++ le32 2013) ≡ take 12 (drop 4 s)
+  ids-bytes =
+      rw (← reads h .sound .opcode, word-bytes-at 4 (omega arith), word-bytes-at 8 (omega arith), word-bytes-at 12 (omega arith))
+      (sym (take-add 4 8 (drop 4 s) ∙ ap (λ (l : List ℕ). take 4 (drop 4 s) ++ l) (ap (take 8) (drop-drop 4 4 s) ∙ take-add 4 4 (drop 8 s) ∙ ap (λ (l : List ℕ). take 4 (drop 8 s) ++ take 4 l) (drop-drop 4 8 s))))
+
+  id-lt : (k : ℕ) → wordAt k s < 2 ^ 32
+  unfolding wordAt
+  id-lt k = word-lt (drop k s) (bytes-drop k s b)
+
+  written-made : (body : List ℕ) → written (signed (wordAt 4 s)) (signed (wordAt 8 s)) (flagWord s) body ≡ made s (0 ∷ body)
+  unfolding written appended
+  written-made body = rw (bits32-signed (wordAt 4 s) (id-lt 4), bits32-signed (wordAt 8 s) (id-lt 8), ids-bytes)
+
+  module _ (body out : List ℕ) (w : View) (fits : length body < length (sectionBytes s)) (stated : word body ≡ length body) (least : 5 ≤ length body) (room : Room s out)
+      (after : read e (made s (0 ∷ body)) ≡ ok w) where
+    write-answers : write e (signed (wordAt 4 s)) (signed (wordAt 8 s)) (flagWord s) body (length out) ≡ ok (record { view = w; bytes = made s (0 ∷ body) })
+    unfolding write _>>=_ refuse
+    write-answers =
+        let n = wholeLength (flagWord s) (0 ∷ body) in
+        let m = made-fits (0 ∷ body) fits in
+        rw (
+          known-allKnown 32 (e .bits) (flagWord s) known,
+          le-ltb maxLength n (omega (arith, m, reads h .sound .limit)),
+          le-ltb (length out) n (omega (arith, m)),
+          le-ltb (length body) 4 (omega arith),
+          eq-eqb (word body) (length body) stated,
+          written-made body,
+          after,
+        )
+
+    pub write-made : firstMessage (output (write e (signed (wordAt 4 s)) (signed (wordAt 8 s)) (flagWord s) body (length out)) out) ≡ made s (0 ∷ body)
+    unfolding output
+    write-made = rw write-answers (first-made (0 ∷ body) fits _)
+
+  -- ---- the message with all its sections is the whole message
+
+  header-bytes : le32 (wholeLength (flagWord s) (sectionBytes s)) ++ take 12 (drop 4 s) ≡ take 16 s
+  unfolding wholeLength
+  header-bytes = rw (← stated-length s (reads h .sound), word-bytes-at 0 (omega arith)) (sym (take-add 4 12 s))
+
+  end-least : 20 ≤ sectionsEnd s
+  end-least = omega (arith, stated-end s (reads h .sound))
+
+  before-end : (le32 (wholeLength (flagWord s) (sectionBytes s)) ++ take 12 (drop 4 s)) ++ (le32 (flagWord s) ++ sectionBytes s) ≡ take (sectionsEnd s) s
+  unfolding sectionBytes
+  before-end =
+      let q : sectionsEnd s ≡ 16 + (4 + (sectionsEnd s - 20)) = omega (arith, end-least) in
+      rw (header-bytes, word-bytes-at 16 (omega arith))
+      (sym (ap (λ (i : ℕ). take i s) q ∙ take-add 16 (4 + (sectionsEnd s - 20)) s ∙ ap (λ (l : List ℕ). take 16 s ++ l) (take-add 4 (sectionsEnd s - 20) (drop 16 s) ∙ ap (λ (l : List ℕ). take 4 (drop 16 s) ++ take (sectionsEnd s - 20) l) (drop-drop 4 16 s))))
+
+  with-checksum : (c : Bool) → checksummed (flagWord s) ≡ c → take (sectionsEnd s) s ++ checksum (flagWord s) (take (sectionsEnd s) s) ≡ take (messageLength s) s
+  unfolding sectionsEnd wordAt
+  with-checksum true c =
+      let n = messageLength s in
+      let k = reads h .sound in
+      let f = size-with (flagWord s) c in
+      let g : n - 4 + 4 ≡ n = omega (arith, k .ended) in
+      let l : 4 ≤ length (drop (n - 4) s) = rw length-drop (omega (arith, k .ended, k .whole)) in
+      rw (checksum-with (flagWord s) (take (sectionsEnd s) s) c, f, ← right-checksum s (k .checksum) c, le32-word (drop (n - 4) s) (bytes-drop (n - 4) s b) l)
+      (sym (take-add (n - 4) 4 s) ∙ ap (λ (i : ℕ). take i s) g)
+  with-checksum false c =
+      let z : messageLength s - 0 ≡ messageLength s = omega arith in
+      rw (checksum-without (flagWord s) (take (sectionsEnd s) s) c, size-without (flagWord s) c, z) (append-nil (take (messageLength s) s))
+
+  pub whole-made : made s (sectionBytes s) ≡ firstMessage s
+  unfolding appended message firstMessage
+  whole-made = rw before-end (with-checksum (checksummed (flagWord s)) refl)

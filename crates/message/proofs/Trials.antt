@@ -1,0 +1,98 @@
+-- Document 01's trials T1 to T14, as one table.
+-- Assumes nothing.
+use Prim.Native.Nat.{ℕ}
+use mathlib.Core.Bool.{true, false}
+use mathlib.Core.Path.{_≡_, refl}
+use mathlib.Core.List.{List, [], _∷_, _++_, map}
+use lib.ListN.{take, drop, set, replicate}
+use lib.IntN.{pos}
+use Rattle.wire.specs.Outcome.{Outcome, ok, refused, refuse, _>>=_}
+use Rattle.wire.specs.Bytes.{word, wordAt, under, signed, bits32, le32, untilZero, oneOf}
+use Rattle.wire.specs.Walk.{walk}
+use Rattle.crc32c.specs.Crc.{shiftBit, shiftBits, intoByte, registerAfter, crcOf}
+use Rattle.bson.specs.Value.{sized, cstring, string, binary, boolean, regex, pointer, codeWithScope, table, ruleIn}
+use Rattle.bson.specs.Document.{maxLevels, maxElements, frame, head, inside, element, documentAt, sizeOf, elementSize}
+use Rattle.protocol.specs.Flags.{common, kept, allKnown, checksummed, knows}
+use Rattle.protocol.specs.Layout.{maxLength, checksumSize, sectionsEnd, sectionBytes, checksumDiffers}
+use Rattle.protocol.specs.Sections.{maxSequences, bodyStart, bodySize, sequencesOf, nextDocument, bodySection, sequenceRun, sequenceSection, sectionOf, sectionAt}
+use Rattle.protocol.specs.Names.{sameText, among, distinct, elementNames, part, bodyNames, identifier, identifiers, texts}
+use Rattle.protocol.specs.View.{noSequence, padded, viewOf}
+use Rattle.protocol.specs.Read.{header, flagged, parts, distinctNames, content, read}
+use Rattle.message.specs.Message.{checksum, message, wholeLength, Written}
+use Rattle.message.specs.Forward.{forwarded, forward}
+use Rattle.message.specs.Append.{sequenceBytes, appended, append}
+use Rattle.protocol.specs.declared.Edition.{Edition}
+use Rattle.protocol.specs.declared.View.{View}
+
+abbrev house : Edition
+house = record { bits = 0x1_0003; sequences = true }
+
+abbrev bodiesOnly : Edition
+bodiesOnly = record { bits = 0x1_0003; sequences = false }
+
+abbrev ping : List ℕ
+ping = 0x24 ∷ 0 ∷ 0 ∷ 0 ∷ 7 ∷ 0 ∷ 0 ∷ 0 ∷ 0 ∷ 0 ∷ 0 ∷ 0 ∷ 0xDD ∷ 7 ∷ 0 ∷ 0 ∷ 0 ∷ 0 ∷ 0 ∷ 0 ∷ 0 ∷ 0x0F ∷ 0 ∷ 0 ∷ 0 ∷ 0x10 ∷ 0x70 ∷ 0x69 ∷ 0x6E ∷ 0x67 ∷ 0 ∷ 1 ∷ 0 ∷ 0 ∷ 0 ∷ 0 ∷ []
+
+abbrev pingShown : View
+pingShown = record { length = 36; «request_id» = pos 7; «response_to» = pos 0; flags = 0; body = 21; «body_length» = 15; «sequence_count» = 0; sequences = replicate 16 noSequence; elements = 1 }
+
+-- PING with the sequence `d` of one empty document
+abbrev withD : List ℕ
+withD = set ping 0 48 ++ (1 ∷ 11 ∷ 0 ∷ 0 ∷ 0 ∷ 0x64 ∷ 0 ∷ 5 ∷ 0 ∷ 0 ∷ 0 ∷ 0 ∷ [])
+
+abbrev withDShown : View
+withDShown = record { length = 48; «request_id» = pos 7; «response_to» = pos 0; flags = 0; body = 21; «body_length» = 15; «sequence_count» = 1; sequences = set (replicate 16 noSequence) 0 (record { name = 41; «name_length» = 1; start = 43; end = 48; documents = 1 }); elements = 1 }
+
+-- a body with `ping` twice
+abbrev twice : List ℕ
+twice = set (set (take 35 ping) 0 46) 21 25 ++ (take 10 (drop 25 ping) ++ (0 ∷ []))
+
+data Trial : Type 0 where
+  reads : Edition → List ℕ → Trial
+  forwards : List ℕ → Trial
+  appends : (identifier documents : List ℕ) → Trial
+
+-- a trial's answer: the view, and the message where it writes one
+abbrev run : Trial → Outcome Written
+run (reads e s) = do
+  v ← read e s
+  ok (record { view = v; bytes = [] })
+run (forwards s) = forward house s 36
+run (appends i d) = append house ping i d 48
+
+abbrev shown : View → List ℕ → Outcome Written
+shown v m = ok (record { view = v; bytes = m })
+
+trials :
+    map run (reads house ping
+    ∷ reads house []
+    ∷ reads house (0xFF ∷ 0xFF ∷ 0xFF ∷ 0xFF ∷ drop 4 ping)
+    ∷ reads house (take 35 ping)
+    ∷ reads house (set ping 12 0xD3)
+    ∷ reads house (set ping 12 0xD4)
+    ∷ reads house (set ping 16 4)
+    ∷ forwards (set ping 18 2)
+    ∷ reads house (set (take 20 ping) 0 20)
+    ∷ reads house (set ping 20 2)
+    ∷ appends (0x64 ∷ []) (5 ∷ 0 ∷ 0 ∷ 0 ∷ 0 ∷ [])
+    ∷ reads bodiesOnly withD
+    ∷ appends (0x70 ∷ 0x69 ∷ 0x6E ∷ 0x67 ∷ []) []
+    ∷ reads house twice
+    ∷ [])
+    ≡ shown pingShown []
+    ∷ refused 1 0
+    ∷ refused 2 0
+    ∷ refused 3 0
+    ∷ refused 6 12
+    ∷ refused 4 12
+    ∷ refused 8 16
+    ∷ shown pingShown ping
+    ∷ refused 22 20
+    ∷ refused 10 20
+    ∷ shown withDShown withD
+    ∷ refused 10 36
+    ∷ refused 24 41
+    ∷ refused 23 36
+    ∷ []
+unfolding _>>=_ refuse walk word wordAt under signed bits32 untilZero oneOf sized cstring string binary boolean regex pointer codeWithScope table ruleIn maxLevels maxElements frame head inside element documentAt sizeOf elementSize common kept allKnown checksummed knows maxLength checksumSize sectionsEnd sectionBytes checksumDiffers maxSequences bodyStart bodySize sequencesOf nextDocument bodySection sequenceRun sequenceSection sectionOf sectionAt sameText among distinct elementNames part bodyNames identifier identifiers texts padded viewOf header flagged parts distinctNames content read le32 checksum message wholeLength forwarded forward sequenceBytes appended append
+trials = refl

@@ -1,0 +1,2 @@
+// Checks 22 to 24: names that must differ.
+pub mod names;

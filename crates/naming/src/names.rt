@@ -1,0 +1,245 @@
+// Checks 22 to 24: names that must differ.
+use bson::element_size;
+use protocol::Sequence;
+use protocol::Verdict;
+use protocol::refused;
+use wire::until_zero;
+use wire::word;
+ghost use mathlib.Core.List.{List, map, _++_};
+ghost use mathlib.Core.Path.{_≡_};
+ghost use Prim.Native.Nat.{_+_, _-_, _%_, _^_, _<_, _≤_};
+ghost use lib.ListN.{length, take};
+ghost use Rattle.protocol.specs.Names.{sameText, among, distinct, part, identifier, texts, bodyNames, identifiers};
+ghost use Rattle.protocol.specs.Sections.{Section};
+ghost use Rattle.protocol.specs.Read.{distinctNames};
+ghost use Rattle.protocol.specs.Answers.{judged, Shows, Filled};
+ghost use Rattle.naming.specs.Answers.{nameText, namesOf, slotOf, Marks, Surveyed};
+
+// Check 23 of a body's elements, and the marks of their names.
+pub struct Survey {
+    pub verdict: Verdict,
+    pub marks: [u64; 32],
+}
+
+// Two texts are the same.
+fn same(a: &[u8], b: &[u8]) -> bool
+    ensures { λ r. ⌜ r ≡ sameText (now (a .entry)) (now (b .entry)) ⌝ }
+{
+    if a.len() != b.len() {
+        return false;
+    }
+    let mut i: usize = 0;
+    while i < a.len() {
+        if a[i] != b[i] {
+            return false;
+        }
+        i += 1;
+    }
+    true
+}
+
+// n bytes from a place of the message on, or those of them that there are; xs are the bytes from 20 on.
+fn part(xs: &[u8], place: usize, n: usize) -> &[u8]
+    ensures { λ r. ⌜ now r ≡ part (now (xs .entry)) place n ⌝ }
+{
+    let start = if place < 20 { 0 } else { place - 20 };
+    if xs.len() <= start {
+        return &xs[..0];
+    }
+    if xs.len() - start <= n {
+        return &xs[start..];
+    }
+    let end = start + n;
+    &xs[start..end]
+}
+
+// The name of the element at the start of xs.
+fn name(xs: &[u8]) -> &[u8]
+    requires { ⌜ 0 < length (now xs) ⌝ }
+    ensures { λ r. ⌜ now r ≡ nameText (now (xs .entry)) ⌝ }
+{
+    let rest = &xs[1..];
+    let n = until_zero(rest);
+    &rest[..n]
+}
+
+// Where the mark of a text stands.
+fn slot(text: &[u8]) -> usize
+    ensures { λ r. ⌜ r ≡ slotOf (now (text .entry)) ⌝ }
+{
+    let n = text.len();
+    let start = if n < 4 { 0 } else { n - 4 };
+    let tail = word(&text[start..]) as usize;
+    (n + word(text) as usize + 3 * tail) % 2039
+}
+
+// The bit of a slot in its word.
+fn bit(slot: usize) -> u64
+    ensures { λ r. ⌜ r ≡ 2 ^ (slot % 64) ⌝ }
+{
+    1 << (slot % 64)
+}
+
+// A text is one of the first k names of the elements xs.
+fn named(xs: &[u8], k: usize, text: &[u8]) -> bool
+    requires { ⌜ Filled (now xs) ⌝ }
+    ensures { λ r. ⌜ r ≡ among (take k (namesOf (now (xs .entry)))) (now (text .entry)) ⌝ }
+{
+    let mut i: usize = 0;
+    let mut left = k;
+    while i < xs.len() {
+        if left == 0 {
+            return false;
+        }
+        let rest = &xs[i..];
+        if same(text, name(rest)) {
+            return true;
+        }
+        i += element_size(rest);
+        left -= 1;
+    }
+    false
+}
+
+// Check 23 of a body's elements xs, the first at a place; marks keep most names from being compared.
+pub fn body_names(xs: &[u8], at: usize) -> Survey
+    requires { ⌜ Filled (now xs) × (at + length (now xs) < 2 ^ 64) ⌝ }
+    ensures { λ r. ⌜ Surveyed at (now (xs .entry)) r ⌝ }
+{
+    let mut marks: [u64; 32] = [0; 32];
+    let mut k: usize = 0;
+    let mut i: usize = 0;
+    while i < xs.len() {
+        let rest = &xs[i..];
+        let text = name(rest);
+        let mark = slot(text);
+        let set = bit(mark);
+        let old = marks[mark / 64];
+        let hit = old & set;
+        if hit == set {
+            if named(xs, k, text) {
+                return Survey {
+                    verdict: refused(23, at + i + 1),
+                    marks,
+                };
+            }
+        }
+        marks[mark / 64] = old | set;
+        k += 1;
+        i += element_size(rest);
+    }
+    Survey {
+        verdict: Verdict::Accepted,
+        marks,
+    }
+}
+
+// A text is the identifier of one of the first k sequences.
+fn identified(xs: &[u8], sequences: [Sequence; 16], k: usize, text: &[u8]) -> bool
+    requires { ⌜ k ≤ 16 ⌝ }
+    ensures { λ r. ⌜ r ≡ among (texts (map (identifier (now (xs .entry))) (take k sequences))) (now (text .entry)) ⌝ }
+{
+    let mut i: usize = 0;
+    while i < k {
+        let q = sequences[i];
+        let place = q.name as usize;
+        let n = q.name_length as usize;
+        if same(text, part(xs, place, n)) {
+            return true;
+        }
+        i += 1;
+    }
+    false
+}
+
+// Check 24, given the body's elements and the marks of their names.
+fn identifiers_differ(
+    xs: &[u8],
+    elements: &[u8],
+    given: [u64; 32],
+    sequences: [Sequence; 16],
+    count: usize,
+) -> Verdict
+    requires { ⌜ (count ≤ 16) × Filled (now elements) × Marks (namesOf (now elements)) given ⌝ }
+    ensures { λ r. ⌜ judged r ≡ distinct 24 (namesOf (now (elements .entry))) (map (identifier (now (xs .entry))) (take count sequences)) ⌝ }
+{
+    let mut marks = given;
+    let mut k: usize = 0;
+    while k < count {
+        let q = sequences[k];
+        let place = q.name as usize;
+        let n = q.name_length as usize;
+        let text = part(xs, place, n);
+        let mark = slot(text);
+        let set = bit(mark);
+        let old = marks[mark / 64];
+        let hit = old & set;
+        if hit == set {
+            if named(elements, elements.len(), text) {
+                return refused(24, place);
+            }
+            if identified(xs, sequences, k, text) {
+                return refused(24, place);
+            }
+        }
+        marks[mark / 64] = old | set;
+        k += 1;
+    }
+    Verdict::Accepted
+}
+
+// The elements of the body.
+fn elements(xs: &[u8], body: usize, body_length: usize) -> &[u8]
+    requires { ⌜ body < 2 ^ 32 ⌝ }
+    ensures { λ r. ⌜ now r ≡ part (now (xs .entry)) (body + 4) («body_length» - 5) ⌝ }
+{
+    if body_length < 5 {
+        return part(xs, body + 4, 0);
+    }
+    part(xs, body + 4, body_length - 5)
+}
+
+// Checks 22 to 24 of sections that end at a place and have the bytes xs, by what is kept of them.
+pub fn distinct_names(
+    end: usize,
+    xs: &[u8],
+    body: usize,
+    body_length: usize,
+    sequences: [Sequence; 16],
+    count: usize,
+) -> Verdict
+    requires { ⌜ (count ≤ 16) × (body < 2 ^ 32) × Filled (part (now xs) (body + 4) («body_length» - 5)) ⌝ }
+    ensures { λ r. ⌜ ((qs : List Section) → Shows qs body «body_length» sequences count → judged r ≡ distinctNames end (now (xs .entry)) qs) ⌝ }
+{
+    if body == 0 {
+        return refused(22, end);
+    }
+    let content = elements(xs, body, body_length);
+    let found = body_names(content, body + 4);
+    let verdict = found.verdict;
+    let Verdict::Accepted = verdict else {
+        return verdict;
+    };
+    let marks = found.marks;
+    identifiers_differ(xs, content, marks, sequences, count)
+}
+
+// A text is one of the body's names or of the identifiers.
+pub fn taken(
+    xs: &[u8],
+    body: usize,
+    body_length: usize,
+    sequences: [Sequence; 16],
+    count: usize,
+    text: &[u8],
+) -> bool
+    requires { ⌜ (count ≤ 16) × (body < 2 ^ 32) × Filled (part (now xs) (body + 4) («body_length» - 5)) ⌝ }
+    ensures { λ r. ⌜ ((qs : List Section) → Shows qs body «body_length» sequences count
+        → r ≡ among (texts (bodyNames (now (xs .entry)) qs) ++ texts (identifiers (now (xs .entry)) qs)) (now (text .entry))) ⌝ }
+{
+    let content = elements(xs, body, body_length);
+    if named(content, content.len(), text) {
+        return true;
+    }
+    identified(xs, sequences, count, text)
+}
