@@ -45,7 +45,7 @@ module _ (e : Edition) (s : List ℕ) (v : View) (h : read e s ≡ ok v) where
   unfolding viewOf
   view-length = sym (ap (λ (v : View). v .length) (reads h .view))
 
-  form : Headed (take 16 s) (v .flags) (sectionBytes s)
+  pub form : Headed (take 16 s) (v .flags) (sectionBytes s)
   form = rw view-flags (headed s (reads h .sound) (kept (e .bits) (flagWord s)) (kept-lt (e .bits) (flagWord s)) (kept-bit0 (e .bits) (flagWord s) required))
 
   pub forwarded-word : (k : ℕ) → k + 4 ≤ 16 → wordAt k (forwarded s v) ≡ wordAt k s

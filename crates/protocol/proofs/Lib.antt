@@ -5,3 +5,4 @@ pub mod Accepted
 pub mod Front
 pub mod Shown
 pub mod Differ
+pub mod Answered
