@@ -5,7 +5,6 @@ use mathlib.Core.Bool.{Bool, true, false}
 use mathlib.Core.Path.{_≡_, refl, sym, ap, _∙_}
 use mathlib.Core.List.{List, _∷_, _++_, append-nil}
 use native.Mathlib.Omega.{arith}
-use native.Mathlib.Nat.{mod-eq-of-lt}
 use lib.ListN.{length, take, drop, length-append, length-drop, take-append-drop}
 use lib.Seq.{take-add, take-at, take-take, drop-drop, length-take-le}
 use borrow.Author.Tests.{le-ltb, lt-leb, eq-eqb, ne-eqb}
@@ -30,7 +29,7 @@ use Rattle.protocol.specs.declared.View.{View}
 use Rattle.protocol.proofs.Accepted.{Differ, reads, accepted}
 use Rattle.protocol.proofs.Limits.{maxLength-small}
 use Rattle.protocol.proofs.Section.{section-steady}
-use Rattle.protocol.proofs.Bits.{Known, known-allKnown, of-known}
+use Rattle.protocol.proofs.Bits.{Known, known-allKnown, kept-all}
 use Rattle.message.proofs.Message.{size-with, size-without, checksum-with, checksum-without, right-checksum, Headed, message-header, message-flags, message-end, message-sections, message-length, message-sound, stated-length, stated-end}
 
 -- the message s with sections ys
@@ -43,8 +42,7 @@ module _ (e : Edition) (s : List ℕ) (v : View) (h : read e s ≡ ok v) (b : By
   flags-lt = word-lt (drop 16 s) (bytes-drop 16 s b)
 
   pub flags-kept : kept (e .bits) (flagWord s) ≡ flagWord s
-  unfolding kept
-  flags-kept = of-known 32 (flagWord s) (e .bits) known ∙ mod-eq-of-lt flags-lt
+  flags-kept = kept-all (e .bits) (flagWord s) known flags-lt
 
   rest-length : length (take 12 (drop 4 s)) ≡ 12
   rest-length = length-take-le 12 (drop 4 s) (rw length-drop (omega (arith, reads h .sound)))

@@ -17,6 +17,13 @@ pub fn required_known(bits: u32, flags: u32) -> bool
     low & bits == low
 }
 
+// Every bit that is set is known, optional ones too.
+pub fn all_known(bits: u32, flags: u32) -> bool
+    ensures { λ r. ⌜ r ≡ allKnown 32 bits flags ⌝ }
+{
+    flags & bits == flags
+}
+
 // There is a checksum.
 pub fn checksummed(flags: u32) -> bool
     ensures { λ r. ⌜ r ≡ checksummed flags ⌝ }

@@ -200,7 +200,8 @@ fn nothing(verdict: Verdict) -> Content
     }
 }
 
-pub(crate) fn no_sequence() -> Sequence
+// An entry of the table past the last sequence.
+pub fn no_sequence() -> Sequence
     ensures { λ r. ⌜ r ≡ noSequence ⌝ }
 {
     Sequence {

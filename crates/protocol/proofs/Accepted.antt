@@ -2,7 +2,7 @@
 -- Assumes nothing.
 use Prim.Native.Nat.{ℕ, _+_, _≤_}
 use mathlib.Core.Bool.{true, false, not}
-use mathlib.Core.Path.{_≡_, refl}
+use mathlib.Core.Path.{_≡_, refl, _∙_}
 use mathlib.Core.List.{List, [], _∷_}
 use native.Mathlib.Omega.{arith}
 use lib.ListN.{length}
@@ -10,7 +10,7 @@ use lib.Dec.{ltb, eqb}
 use borrow.Author.Tests.{ltb-false, le-ltb, eqb-true, not-false}
 use Rattle.wire.specs.Outcome.{ok, refused, refuse, _>>=_}
 use Rattle.wire.specs.Bytes.{under, oneOf}
-use Rattle.wire.proofs.Outcome.{ok-same, went, passed, clear}
+use Rattle.wire.proofs.Outcome.{ok-same, went, passed, clear, pass, go-on, halt}
 use Rattle.wire.proofs.Bytes.{not-under}
 use Rattle.protocol.specs.Flags.{allKnown}
 use Rattle.protocol.specs.Layout.{maxLength, messageLength, opCode, flagWord, checksumSize, sectionBytes, checksumDiffers}
@@ -145,16 +145,19 @@ module _ (e : Edition) (s : List ℕ) (k : Sound s) where
       rw (read, header, t .0, t .1, t .2, t .3, t .4, t .5, t .6, flagged, t .7, b)
 
   module _ (b : not (allKnown 16 (e .bits) (flagWord s)) ≡ false) where
-    -- its sections are refused
-    pub sections-refused : {number place : ℕ} → parts e s ≡ refused number place → read e s ≡ refused number place
-    unfolding read header flagged content distinctNames _>>=_ refuse Tests
-    sections-refused h =
+    -- it goes by its sections
+    pub read-content : read e s ≡ content e s
+    unfolding read header flagged _>>=_ refuse Tests
+    read-content =
         let t = tests s k in
-        rw (read, header, t .0, t .1, t .2, t .3, t .4, t .5, t .6, flagged, t .7, b, t .8, k .checksum, content, h)
+        rw (read, header, t .0, t .1, t .2, t .3, t .4, t .5, t .6, flagged, t .7, b, t .8, k .checksum)
 
-    -- its sections are read, and their names differ
+    -- they are refused
+    pub sections-refused : {number place : ℕ} → parts e s ≡ refused number place → read e s ≡ refused number place
+    unfolding content
+    sections-refused h = read-content ∙ halt _ h
+
+    -- they are read, and their names differ
     pub accepted : (p : Parts) → parts e s ≡ ok p → eqb (bodyStart (p .sections)) 0 ≡ false → Differ (sectionBytes s) (p .sections) → read e s ≡ ok (viewOf e s p)
-    unfolding read header flagged content distinctNames _>>=_ refuse Tests
-    accepted p h i d =
-        let t = tests s k in
-        rw (read, header, t .0, t .1, t .2, t .3, t .4, t .5, t .6, flagged, t .7, b, t .8, k .checksum, content, h, distinctNames, i, d .names, d .all)
+    unfolding content distinctNames
+    accepted p h i d = read-content ∙ go-on _ h ∙ go-on _ (pass _ _ _ i ∙ go-on _ (d .names) ∙ d .all)

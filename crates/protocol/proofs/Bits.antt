@@ -2,9 +2,9 @@
 -- Assumes nothing.
 use Prim.Native.Nat.{ℕ, zero, suc, _+_, _*_, _/_, _%_, _^_, _<_, _≤_, min}
 use mathlib.Core.Bool.{Bool, true, false, not}
-use mathlib.Core.Path.{_≡_, refl, sym, ap}
+use mathlib.Core.Path.{_≡_, refl, sym, ap, _∙_}
 use native.Mathlib.Omega.{arith}
-use native.Mathlib.Nat.{mod-one, div-one}
+use native.Mathlib.Nat.{mod-one, mod-eq-of-lt, div-one}
 use native.Mathlib.Numerals.{add-one, one-add}
 use lib.Dec.{T, eqb, eqb→eq}
 use lib.Pow.{mod-pow-add, shr-shr}
@@ -126,6 +126,11 @@ kept-swap a b f = common-swap 32 f a b
 pub kept-lt : (a f : ℕ) → kept a f < 2 ^ 32
 unfolding kept
 kept-lt a f = common-lt 32 f a
+
+-- a flag word whose bits are all known stays as it is
+pub kept-all : (a f : ℕ) → Known 32 f a → f < 2 ^ 32 → kept a f ≡ f
+unfolding kept
+kept-all a f h l = of-known 32 f a h ∙ mod-eq-of-lt l
 
 pub kept-within : (a b f : ℕ) → Known 32 b a → kept b (kept a f) ≡ kept b f
 unfolding kept

@@ -1,12 +1,12 @@
 -- A message that is stored from left to right over what stood in an output.
 -- Assumes nothing.
-use Prim.Native.Nat.{ℕ, _+_, _≤_}
+use Prim.Native.Nat.{ℕ, _+_, _≤_, _<_}
 use mathlib.Core.Path.{_≡_, refl, sym, ap, ap₂, _∙_}
 use mathlib.Core.List.{List, [], _∷_, _++_, append-assoc, append-nil}
 use native.Mathlib.Omega.{arith}
 use native.Mathlib.Nat.{add-zero}
-use lib.ListN.{length, take, drop, length-append, length-drop, take-append-drop}
-use lib.Seq.{take-at, drop-append-add, drop-drop}
+use lib.ListN.{length, take, drop, set, length-append, length-drop, take-append-drop}
+use lib.Seq.{take-at, drop-append-add, drop-drop, sets-eq}
 use Rattle.wire.specs.Bytes.{put}
 use Rattle.wire.proofs.Parts.{put-fits}
 use Rattle.protocol.specs.Layout.{checksumSize}
@@ -25,15 +25,26 @@ stores-none old = refl
 pub put-none : (at : ℕ) (old : List ℕ) → at ≤ length old → put at [] old ≡ old
 put-none at old h = put-fits at [] old (omega arith) ∙ rw (add-zero at, append-nil (take at old)) (take-append-drop at old)
 
+-- it is as long as before
+pub stored-length : (p old now : List ℕ) → length p ≤ length old → Stored p old now → length now ≡ length old
+stored-length p old now h e = ap length e ∙ length-append p (drop (length p) old) ∙ rw length-drop (omega arith)
+
 -- one part more
 pub stores : (p x old now : List ℕ) (at : ℕ) → length p ≡ at → length p + length x ≤ length old → Stored p old now → Stored (p ++ x) old (put at x now)
 stores p x old now at l h e =
-    let long : length now ≡ length old = ap length e ∙ length-append p (drop (length p) old) ∙ rw length-drop (omega arith) in
+    let long = stored-length p old now (omega arith) e in
     let first : take at now ≡ p = ap (take at) e ∙ take-at p (drop (length p) old) at l in
     let rest : drop (at + length x) now ≡ drop (length (p ++ x)) old =
     ap (drop (at + length x)) e ∙ ap (λ (n : ℕ). drop (n + length x) (p ++ drop (length p) old)) (sym l)
     ∙ drop-append-add p (drop (length p) old) (length x) ∙ drop-drop (length x) (length p) old ∙ ap (λ (n : ℕ). drop n old) (sym (length-append p x)) in
     put-fits at x now (omega arith) ∙ ap₂ (λ (a b : List ℕ). a ++ x ++ b) first rest
+
+-- one byte more
+pub stores-byte : (p old now : List ℕ) (x at : ℕ) → length p ≡ at → at < length old → Stored p old now → Stored (p ++ (x ∷ [])) old (set now at x)
+stores-byte p old now x at l h e =
+    let long = stored-length p old now (omega arith) e in
+    let room : at + length (x ∷ []) ≤ length now = omega arith in
+    sets-eq (x ∷ []) now at room ∙ sym (put-fits at (x ∷ []) now room) ∙ stores p (x ∷ []) old now at l (omega arith) e
 
 -- the checksum of all that is stored, where the flag word has bit 0: then the message is whole
 pub sealed : (m old now : List ℕ) (flags end : ℕ) → length m ≡ end → end + checksumSize flags ≤ length old → Stored m old now

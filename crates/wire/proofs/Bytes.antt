@@ -1,6 +1,6 @@
 -- Laws of numbers and texts in a run of bytes: a number's four bytes read back, and what a front of the bytes shows.
 -- Assumes nothing.
-use Prim.Native.Nat.{ℕ, zero, suc, _+_, _*_, _/_, _%_, _^_, _<_, _≤_}
+use Prim.Native.Nat.{ℕ, zero, suc, _+_, _-_, _*_, _/_, _%_, _^_, _<_, _≤_}
 use mathlib.Core.Bool.{Bool, true, false}
 use mathlib.Core.Path.{_≡_, refl, sym, ap, _∙_}
 use mathlib.Core.List.{List, [], _∷_, _++_}
@@ -10,7 +10,10 @@ use native.Mathlib.Nat.{div-div-eq-div-mul, div-lt-iff-lt-mul, mod-eq-of-lt, mod
 use lib.ListN.{length, getD, take, drop, length-drop, drop-of-length-le}
 use lib.Seq.{drop-append-le, drop-cons, getD-drop}
 use lib.Dec.{ltb, leb, eqb}
-use borrow.Author.Tests.{ltb-false, leb-false, le-ltb, lt-leb, eqb-true, eq-eqb, ne-eqb}
+use lib.IntN.{ℤ, pos, negsuc}
+use mir.Syntax.{w32}
+use mir.Val.{SFits}
+use borrow.Author.Tests.{ltb-false, leb-false, lt-ltb, le-ltb, lt-leb, eqb-true, eq-eqb, ne-eqb}
 use Rattle.wire.specs.Bytes.{Bytes, word, wordAt, under, signed, bits32, le32, untilZero}
 
 -- a number that is not under n, as a signed one
@@ -82,6 +85,19 @@ bits32-signed n l = go (ltb n (2 ^ 31)) refl
     go : (b : Bool) → ltb n (2 ^ 31) ≡ b → bits32 (signed n) ≡ n
     go true e = rw (signed, e)
     go false e = rw (signed, e) (omega (arith, ltb-false n (2 ^ 31) e))
+
+pub bits32-lt : (x : ℤ) → SFits w32 x → bits32 x < 2 ^ 32
+unfolding bits32
+bits32-lt (pos n) f = let k : n < 2 ^ 31 = f .sfits in omega arith
+bits32-lt (negsuc n) f = omega arith
+
+pub signed-bits32 : (x : ℤ) → SFits w32 x → signed (bits32 x) ≡ x
+unfolding signed bits32
+signed-bits32 (pos n) f = rw (signed, lt-ltb n (2 ^ 31) (f .sfits))
+signed-bits32 (negsuc n) f =
+    let k : n < 2 ^ 31 = f .sfits in
+    let e : 2 ^ 32 - 1 - (2 ^ 32 - 1 - n) ≡ n = omega arith in
+    rw (signed, le-ltb (2 ^ 32 - 1 - n) (2 ^ 31) (omega arith), e)
 
 -- a front of the bytes shows the numbers in it
 pub word-front : (xs r : List ℕ) → 4 ≤ length xs → word (xs ++ r) ≡ word xs

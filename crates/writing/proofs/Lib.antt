@@ -1,0 +1,3 @@
+pub mod Examined
+pub mod Laid
+pub mod Written

@@ -1,0 +1,20 @@
+-- `writing::view` meets its contract.
+-- Assumes nothing.
+use mir.Facts.{toZ-ofZ}
+use borrow.Author.Needs.{needs}
+use Rattle.protocol.specs.Sections.{maxSequences}
+use Rattle.protocol.specs.View.{padded}
+use Rattle.writing.specs.Answers.{shown}
+use Rattle.writing.proofs.view.Statement.{statement}
+use Rattle.writing.proofs.view.Tie as tie
+
+returns : tie.Need-returns
+unfolding shown padded maxSequences
+returns c = rw (c .no-sequence .ensures, toZ-ofZ (c .before .fits .request-id), toZ-ofZ (c .before .fits .response-to))
+
+pub view-spec : {M : Type 1} → statement M
+view-spec =
+    tie.close
+    (tie.spec
+    (λ c κs. search needs)
+    returns)

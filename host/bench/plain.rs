@@ -1,0 +1,534 @@
+//! A plain safe Rust reader with the same checks as the library, written as
+//! one would write it for speed without unsafe code: the measure to hold the
+//! library against. `tests/plain.rs` holds it against the independent reader.
+
+pub const MAX_MESSAGE: usize = 49_152;
+pub const MAX_SEQUENCES: usize = 16;
+const MAX_LEVEL: usize = 32;
+const MAX_ELEMENTS: usize = 4_096;
+
+/// A refusal's number and place.
+pub type Refused = (u32, usize);
+
+#[derive(Clone, Copy, Debug, Default, PartialEq, Eq)]
+pub struct View {
+    pub length: usize,
+    pub request_id: i32,
+    pub response_to: i32,
+    pub flags: u32,
+    pub body_start: usize,
+    pub body_length: usize,
+    pub sequence_count: usize,
+    pub elements: usize,
+    pub sequences: [Sequence; MAX_SEQUENCES],
+}
+
+#[derive(Clone, Copy, Debug, Default, PartialEq, Eq)]
+pub struct Sequence {
+    pub identifier_start: usize,
+    pub identifier_length: usize,
+    pub documents_start: usize,
+    pub documents_end: usize,
+    pub documents: usize,
+}
+
+#[derive(Clone, Copy)]
+pub struct Edition {
+    pub bits: u32,
+    pub sequences: bool,
+}
+
+// --------------------------------------------------------------- checksum
+
+static TABLES: [[u32; 256]; 16] = tables();
+
+const fn tables() -> [[u32; 256]; 16] {
+    let mut tables = [[0; 256]; 16];
+    let mut i = 0;
+    while i < 256 {
+        let mut crc = i as u32;
+        let mut bit = 0;
+        while bit < 8 {
+            crc = (crc >> 1) ^ (0x82F6_3B78 * (crc & 1));
+            bit += 1;
+        }
+        tables[0][i] = crc;
+        i += 1;
+    }
+    let mut table = 1;
+    while table < 16 {
+        let mut i = 0;
+        while i < 256 {
+            let before = tables[table - 1][i];
+            tables[table][i] = (before >> 8) ^ tables[0][(before & 0xFF) as usize];
+            i += 1;
+        }
+        table += 1;
+    }
+    tables
+}
+
+/// CRC-32C, sixteen bytes at a time.
+pub fn crc32c(bytes: &[u8]) -> u32 {
+    let mut crc = u32::MAX;
+    let (blocks, rest) = bytes.as_chunks::<16>();
+    for block in blocks {
+        crc = word(12, crc ^ u32_at(block, 0))
+            ^ word(8, u32_at(block, 4))
+            ^ word(4, u32_at(block, 8))
+            ^ word(0, u32_at(block, 12));
+    }
+    for &byte in rest {
+        crc = (crc >> 8) ^ TABLES[0][((crc ^ u32::from(byte)) & 0xFF) as usize];
+    }
+    !crc
+}
+
+/// What four bytes give that have `after` bytes of their block behind them.
+#[inline(always)]
+fn word(after: usize, word: u32) -> u32 {
+    let [a, b, c, d] = word.to_le_bytes();
+    TABLES[after + 3][a as usize]
+        ^ TABLES[after + 2][b as usize]
+        ^ TABLES[after + 1][c as usize]
+        ^ TABLES[after][d as usize]
+}
+
+// ------------------------------------------------------------------- read
+
+#[inline]
+fn u32_at(bytes: &[u8], at: usize) -> u32 {
+    let four: [u8; 4] = bytes[at..at + 4].try_into().expect("four bytes");
+    u32::from_le_bytes(four)
+}
+
+#[inline]
+fn i32_at(bytes: &[u8], at: usize) -> i32 {
+    u32_at(bytes, at) as i32
+}
+
+/// The place of the first zero byte before the limit.
+#[inline]
+fn zero_from(bytes: &[u8], at: usize, limit: usize) -> Option<usize> {
+    let zero = bytes[at..limit].iter().position(|&byte| byte == 0)?;
+    Some(at + zero)
+}
+
+pub fn read(edition: Edition, buffer: &[u8]) -> Result<View, Refused> {
+    let (view, _) = read_parts(edition, buffer)?;
+    Ok(view)
+}
+
+/// Reads a message; the reader that comes with the view holds its names.
+fn read_parts(edition: Edition, buffer: &[u8]) -> Result<(View, Reader<'_>), Refused> {
+    if buffer.len() < 16 {
+        return Err((1, 0));
+    }
+    let stated = i32_at(buffer, 0);
+    if !(16..=MAX_MESSAGE as i32).contains(&stated) {
+        return Err((2, 0));
+    }
+    let Some(message) = buffer.get(..stated as usize) else {
+        return Err((3, 0));
+    };
+    match i32_at(message, 12) {
+        2013 => {}
+        2012 => return Err((5, 12)),
+        1 | 2001 | 2002 | 2004..=2007 => return Err((4, 12)),
+        _ => return Err((6, 12)),
+    }
+    if message.len() < 20 {
+        return Err((7, 16));
+    }
+    let flags = u32_at(message, 16);
+    if flags & !edition.bits & 0xFFFF != 0 {
+        return Err((8, 16));
+    }
+    let mut end = message.len();
+    if flags & 1 != 0 {
+        if end < 24 {
+            return Err((7, 16));
+        }
+        end -= 4;
+        if crc32c(&message[..end]) != u32_at(message, end) {
+            return Err((9, end));
+        }
+    }
+    let mut view = View {
+        length: message.len(),
+        request_id: i32_at(message, 4),
+        response_to: i32_at(message, 8),
+        flags: flags & edition.bits,
+        ..View::default()
+    };
+    let mut reader = Reader::new(&message[..end]);
+    reader.sections(edition, &mut view)?;
+    view.elements = reader.elements;
+    reader.names_differ()?;
+    reader.identifiers_differ(&view)?;
+    Ok((view, reader))
+}
+
+struct Reader<'a> {
+    /// The message up to the end of its sections.
+    bytes: &'a [u8],
+    elements: usize,
+    /// The names at the top of the body with their places, later the
+    /// identifiers too.
+    names: Vec<Name<'a>>,
+}
+
+struct Name<'a> {
+    text: &'a [u8],
+    start: usize,
+}
+
+impl<'a> Reader<'a> {
+    fn new(bytes: &'a [u8]) -> Reader<'a> {
+        Reader {
+            bytes,
+            elements: 0,
+            names: Vec::new(),
+        }
+    }
+
+    fn sections(&mut self, edition: Edition, view: &mut View) -> Result<(), Refused> {
+        let end = self.bytes.len();
+        let mut at = 20;
+        while at < end {
+            match self.bytes[at] {
+                0 => {
+                    if view.body_start != 0 {
+                        return Err((11, at));
+                    }
+                    let after = self.document(at + 1, end, 1, true)?;
+                    view.body_start = at + 1;
+                    view.body_length = after - (at + 1);
+                    at = after;
+                }
+                1 if edition.sequences => {
+                    if view.sequence_count == MAX_SEQUENCES {
+                        return Err((14, at));
+                    }
+                    let sequence = self.sequence(at + 1)?;
+                    view.sequences[view.sequence_count] = sequence;
+                    view.sequence_count += 1;
+                    at = sequence.documents_end;
+                }
+                _ => return Err((10, at)),
+            }
+        }
+        if view.body_start == 0 {
+            return Err((22, end));
+        }
+        Ok(())
+    }
+
+    fn sequence(&mut self, at: usize) -> Result<Sequence, Refused> {
+        let left = self.bytes.len() - at;
+        if left < 4 {
+            return Err((12, at));
+        }
+        let size = i32_at(self.bytes, at);
+        if size < 5 || size as usize > left {
+            return Err((12, at));
+        }
+        let end = at + size as usize;
+        let start = at + 4;
+        let zero = match zero_from(self.bytes, start, end) {
+            Some(zero) if zero > start => zero,
+            _ => return Err((13, start)),
+        };
+        let documents = self.documents(zero + 1, end)?;
+        Ok(Sequence {
+            identifier_start: start,
+            identifier_length: zero - start,
+            documents_start: zero + 1,
+            documents_end: end,
+            documents,
+        })
+    }
+
+    /// Reads documents that stand back to back; answers how many.
+    fn documents(&mut self, start: usize, end: usize) -> Result<usize, Refused> {
+        let mut documents = 0;
+        let mut next = start;
+        while next < end {
+            next = self.document(next, end, 1, false)?;
+            documents += 1;
+        }
+        Ok(documents)
+    }
+
+    /// Reads a document, keeps its names where asked, and answers the place
+    /// after it.
+    fn document(
+        &mut self,
+        start: usize,
+        limit: usize,
+        level: usize,
+        keep_names: bool,
+    ) -> Result<usize, Refused> {
+        if level > MAX_LEVEL {
+            return Err((20, start));
+        }
+        if limit - start < 4 {
+            return Err((15, start));
+        }
+        let length = i32_at(self.bytes, start);
+        if length < 5 || length as usize > limit - start {
+            return Err((15, start));
+        }
+        let after = start + length as usize;
+        let last = after - 1;
+        if self.bytes[last] != 0 {
+            return Err((16, last));
+        }
+        let mut at = start + 4;
+        while at < last {
+            if self.elements == MAX_ELEMENTS {
+                return Err((21, at));
+            }
+            self.elements += 1;
+            let kind = self.bytes[at];
+            if !matches!(kind, 0x01..=0x13 | 0x7F | 0xFF) {
+                return Err((17, at));
+            }
+            let Some(zero) = zero_from(self.bytes, at + 1, last) else {
+                return Err((18, at + 1));
+            };
+            if keep_names {
+                let text = &self.bytes[at + 1..zero];
+                self.names.push(Name {
+                    text,
+                    start: at + 1,
+                });
+            }
+            at = self.value(kind, zero + 1, last, level)?;
+        }
+        Ok(after)
+    }
+
+    fn value(&mut self, kind: u8, at: usize, last: usize, level: usize) -> Result<usize, Refused> {
+        let size = match kind {
+            0x01 | 0x09 | 0x11 | 0x12 => Some(8),
+            0x10 => Some(4),
+            0x02 | 0x0D | 0x0E => self.string(at, last),
+            0x03 | 0x04 => return self.document(at, last, level + 1, false),
+            0x05 => self.binary(at, last),
+            0x06 | 0x0A | 0x7F | 0xFF => Some(0),
+            0x07 => Some(12),
+            0x08 if self.bytes[at] <= 1 => Some(1),
+            0x08 => None,
+            0x0B => self.expression(at, last),
+            0x0C => self.string(at, last).map(|size| size + 12),
+            0x0F => return self.code_with_scope(at, last, level),
+            _ => Some(16),
+        };
+        match size {
+            Some(size) if size <= last - at => Ok(at + size),
+            _ => Err((19, at)),
+        }
+    }
+
+    /// The size of a string that ends before the limit.
+    fn string(&self, at: usize, limit: usize) -> Option<usize> {
+        let room = (limit - at).checked_sub(4)?;
+        let length = i32_at(self.bytes, at);
+        if length < 1 || length as usize > room {
+            return None;
+        }
+        let size = 4 + length as usize;
+        (self.bytes[at + size - 1] == 0).then_some(size)
+    }
+
+    fn binary(&self, at: usize, limit: usize) -> Option<usize> {
+        if limit - at < 5 {
+            return None;
+        }
+        let length = usize::try_from(i32_at(self.bytes, at)).ok()?;
+        Some(5 + length)
+    }
+
+    fn expression(&self, at: usize, limit: usize) -> Option<usize> {
+        let first = zero_from(self.bytes, at, limit)?;
+        let second = zero_from(self.bytes, first + 1, limit)?;
+        Some(second + 1 - at)
+    }
+
+    fn code_with_scope(&mut self, at: usize, last: usize, level: usize) -> Result<usize, Refused> {
+        if last - at < 4 {
+            return Err((19, at));
+        }
+        let total = i32_at(self.bytes, at);
+        if total < 14 || total as usize > last - at {
+            return Err((19, at));
+        }
+        let end = at + total as usize;
+        let Some(size) = self.string(at + 4, end) else {
+            return Err((19, at));
+        };
+        if self.document(at + 4 + size, end, level + 1, false)? != end {
+            return Err((19, at));
+        }
+        Ok(end)
+    }
+
+    fn has_name(&self, count: usize, text: &[u8]) -> bool {
+        self.names[..count].iter().any(|name| name.text == text)
+    }
+
+    fn names_differ(&self) -> Result<(), Refused> {
+        for (index, name) in self.names.iter().enumerate() {
+            if self.has_name(index, name.text) {
+                return Err((23, name.start));
+            }
+        }
+        Ok(())
+    }
+
+    fn identifiers_differ(&mut self, view: &View) -> Result<(), Refused> {
+        for sequence in &view.sequences[..view.sequence_count] {
+            let start = sequence.identifier_start;
+            let text = &self.bytes[start..start + sequence.identifier_length];
+            if self.has_name(self.names.len(), text) {
+                return Err((24, start));
+            }
+            self.names.push(Name { text, start });
+        }
+        Ok(())
+    }
+}
+
+// ----------------------------------------------- forward, write and append
+
+pub fn forward(edition: Edition, message: &[u8], output: &mut [u8]) -> Result<View, Refused> {
+    let view = read(edition, message)?;
+    let Some(output) = output.get_mut(..view.length) else {
+        return Err((25, 0));
+    };
+    output.copy_from_slice(&message[..view.length]);
+    output[16..20].copy_from_slice(&view.flags.to_le_bytes());
+    if view.flags & 1 != 0 {
+        sign(output);
+    }
+    Ok(view)
+}
+
+/// Puts the checksum into the last four bytes.
+fn sign(message: &mut [u8]) {
+    let end = message.len() - 4;
+    let crc = crc32c(&message[..end]);
+    message[end..].copy_from_slice(&crc.to_le_bytes());
+}
+
+/// Checks the body where it lies, and then writes the message.
+pub fn write(
+    edition: Edition,
+    request_id: i32,
+    response_to: i32,
+    flags: u32,
+    body: &[u8],
+    output: &mut [u8],
+) -> Result<View, Refused> {
+    if flags & !edition.bits != 0 {
+        return Err((8, 16));
+    }
+    let end = 21 + body.len();
+    let length = end + if flags & 1 != 0 { 4 } else { 0 };
+    if length > MAX_MESSAGE {
+        return Err((2, 0));
+    }
+    let Some(output) = output.get_mut(..length) else {
+        return Err((25, 0));
+    };
+    if body.len() < 4 || i64::from(i32_at(body, 0)) != body.len() as i64 {
+        return Err((15, 21));
+    }
+    let mut reader = Reader::new(body);
+    reader
+        .document(0, body.len(), 1, true)
+        .and_then(|_| reader.names_differ())
+        .map_err(|(number, place)| (number, place + 21))?;
+    output[0..4].copy_from_slice(&(length as i32).to_le_bytes());
+    output[4..8].copy_from_slice(&request_id.to_le_bytes());
+    output[8..12].copy_from_slice(&response_to.to_le_bytes());
+    output[12..16].copy_from_slice(&2013i32.to_le_bytes());
+    output[16..20].copy_from_slice(&flags.to_le_bytes());
+    output[20] = 0;
+    output[21..end].copy_from_slice(body);
+    if flags & 1 != 0 {
+        sign(output);
+    }
+    Ok(View {
+        length,
+        request_id,
+        response_to,
+        flags,
+        body_start: 21,
+        body_length: body.len(),
+        elements: reader.elements,
+        ..View::default()
+    })
+}
+
+/// Checks the message and then the new documents where they lie, and then
+/// writes the longer message.
+pub fn append(
+    edition: Edition,
+    message: &[u8],
+    identifier: &[u8],
+    documents: &[u8],
+    output: &mut [u8],
+) -> Result<View, Refused> {
+    let (mut view, old) = read_parts(edition, message)?;
+    let end = view.length - if view.flags & 1 != 0 { 4 } else { 0 };
+    if !edition.sequences {
+        return Err((10, end));
+    }
+    if view.sequence_count == MAX_SEQUENCES {
+        return Err((14, end));
+    }
+    if identifier.is_empty() || identifier.contains(&0) {
+        return Err((13, end + 5));
+    }
+    let size = 5 + identifier.len() + documents.len();
+    let length = view.length + 1 + size;
+    if length > MAX_MESSAGE {
+        return Err((2, 0));
+    }
+    let Some(output) = output.get_mut(..length) else {
+        return Err((25, 0));
+    };
+    let start = end + 6 + identifier.len();
+    let mut reader = Reader::new(documents);
+    reader.elements = old.elements;
+    let count = reader
+        .documents(0, documents.len())
+        .map_err(|(number, place)| (number, place + start))?;
+    if old.has_name(old.names.len(), identifier) {
+        return Err((24, end + 5));
+    }
+    output[..end].copy_from_slice(&message[..end]);
+    output[0..4].copy_from_slice(&(length as i32).to_le_bytes());
+    output[16..20].copy_from_slice(&view.flags.to_le_bytes());
+    output[end] = 1;
+    output[end + 1..end + 5].copy_from_slice(&(size as i32).to_le_bytes());
+    output[end + 5..start - 1].copy_from_slice(identifier);
+    output[start - 1] = 0;
+    output[start..start + documents.len()].copy_from_slice(documents);
+    if view.flags & 1 != 0 {
+        sign(output);
+    }
+    view.length = length;
+    view.elements = reader.elements;
+    view.sequences[view.sequence_count] = Sequence {
+        identifier_start: end + 5,
+        identifier_length: identifier.len(),
+        documents_start: start,
+        documents_end: start + documents.len(),
+        documents: count,
+    };
+    view.sequence_count += 1;
+    Ok(view)
+}

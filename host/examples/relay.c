@@ -1,0 +1,104 @@
+/*
+ * Reads the PING message, forwards it with a flag bit that the relay does not
+ * know, appends a document sequence to it and shows a refusal.
+ *
+ *     gcc -std=c99 -Wall -Wextra -Werror -I.. relay.c \
+ *         ../../target/staticlib/librelay_c.a -lpthread -ldl -lm -o relay
+ */
+#include "relay.h"
+
+#include <inttypes.h>
+#include <stdio.h>
+#include <string.h>
+
+static const uint8_t PING[36] = {
+    0x24, 0x00, 0x00, 0x00, 0x07, 0x00, 0x00, 0x00, 0x00, 0x00, 0x00, 0x00,
+    0xDD, 0x07, 0x00, 0x00, 0x00, 0x00, 0x00, 0x00, 0x00, 0x0F, 0x00, 0x00,
+    0x00, 0x10, 0x70, 0x69, 0x6E, 0x67, 0x00, 0x01, 0x00, 0x00, 0x00, 0x00};
+
+static void print_view(const struct relay_view *view, const uint8_t *message)
+{
+    printf("  length %" PRId64 ", request %" PRId64 ", response to %" PRId64
+           ", flags %" PRId64 "\n",
+           view->length, view->request_id, view->response_to, view->flags);
+    printf("  body at %" PRId64 ", length %" PRId64 "; elements %" PRId64 "\n",
+           view->body_start, view->body_length, view->elements);
+    for (int64_t i = 0; i < view->sequence_count; i++) {
+        const struct relay_sequence *sequence = &view->sequences[i];
+        printf("  sequence %.*s: documents %" PRId64 " from %" PRId64
+               " to %" PRId64 "\n",
+               (int)sequence->identifier_length,
+               (const char *)message + sequence->identifier_start,
+               sequence->documents, sequence->documents_start,
+               sequence->documents_end);
+    }
+}
+
+static void print_refusal(const char *what, uint64_t result)
+{
+    printf("%s: refusal %d at %" PRIu32 ": %s\n", what,
+           (int)relay_number(result), relay_place(result),
+           relay_words(relay_number(result)));
+}
+
+int main(void)
+{
+    static uint8_t output[RELAY_MAX_MESSAGE];
+    static const uint8_t empty_document[5] = {5, 0, 0, 0, 0};
+    struct relay_view view;
+    uint8_t message[sizeof PING];
+    uint64_t result;
+
+    result = relay_read(RELAY_HOUSE_BITS, 1, PING, sizeof PING, RELAY_VIEW(&view));
+    if (result != RELAY_ACCEPTED) {
+        print_refusal("read", result);
+        return 1;
+    }
+    printf("read\n");
+    print_view(&view, PING);
+
+    /* Bit 17 is optional and not known to the house edition. */
+    memcpy(message, PING, sizeof PING);
+    message[18] = 0x02;
+    result = relay_forward(RELAY_HOUSE_BITS, 1, message, sizeof message,
+                           output, sizeof output, RELAY_VIEW(&view));
+    if (result != RELAY_ACCEPTED) {
+        print_refusal("forward", result);
+        return 1;
+    }
+    printf("forward\n");
+    print_view(&view, output);
+    printf("  forwarded as PING: %s\n",
+           memcmp(output, PING, sizeof PING) == 0 ? "yes" : "no");
+
+    result = relay_append(RELAY_HOUSE_BITS, 1, PING, sizeof PING,
+                          (const uint8_t *)"d", 1,
+                          empty_document, sizeof empty_document,
+                          output, sizeof output, RELAY_VIEW(&view));
+    if (result != RELAY_ACCEPTED) {
+        print_refusal("append", result);
+        return 1;
+    }
+    printf("append\n");
+    print_view(&view, output);
+
+    result = relay_write(RELAY_HOUSE_BITS, 1, -1, 7, RELAY_CHECKSUM_PRESENT,
+                         PING + 21, 15, output, sizeof output,
+                         RELAY_VIEW(&view));
+    if (result != RELAY_ACCEPTED) {
+        print_refusal("write", result);
+        return 1;
+    }
+    printf("write\n");
+    print_view(&view, output);
+
+    /* The body has the name "ping" already. */
+    result = relay_append(RELAY_HOUSE_BITS, 1, PING, sizeof PING,
+                          (const uint8_t *)"ping", 4, NULL, 0,
+                          output, sizeof output, RELAY_VIEW(&view));
+    print_refusal("append", result);
+
+    result = relay_read(RELAY_HOUSE_BITS, 1, NULL, 0, RELAY_VIEW(&view));
+    print_refusal("read", result);
+    return 0;
+}

@@ -1,0 +1,556 @@
+//! An independent reader, forwarder, writer and appender, written from the
+//! rules of document 01 and from nothing else. It is plain and slow on
+//! purpose: the tests hold the library against it.
+
+use std::collections::HashSet;
+use std::ops::Range;
+
+pub const MAX_MESSAGE: usize = 49_152;
+pub const MAX_SEQUENCES: usize = 16;
+pub const MAX_LEVEL: usize = 32;
+pub const MAX_ELEMENTS: usize = 4_096;
+pub const VIEW_NUMBERS: usize = 88;
+
+/// A refusal's number and place.
+#[derive(Clone, Copy, Debug, PartialEq, Eq)]
+pub struct Refused {
+    pub number: u32,
+    pub place: usize,
+}
+
+#[derive(Clone, Copy, Debug, PartialEq, Eq)]
+pub struct Edition {
+    pub bits: u32,
+    pub sequences: bool,
+}
+
+#[derive(Clone, Debug, PartialEq, Eq)]
+pub struct View {
+    pub length: usize,
+    pub request_id: i32,
+    pub response_to: i32,
+    pub flags: u32,
+    pub body: Range<usize>,
+    pub sequences: Vec<Sequence>,
+    pub elements: usize,
+}
+
+#[derive(Clone, Debug, PartialEq, Eq)]
+pub struct Sequence {
+    pub identifier: Range<usize>,
+    pub documents: Range<usize>,
+    pub count: usize,
+}
+
+impl View {
+    /// The 88 numbers of the C interface.
+    pub fn numbers(&self) -> [i64; VIEW_NUMBERS] {
+        let mut numbers = [0; VIEW_NUMBERS];
+        numbers[0] = self.length as i64;
+        numbers[1] = i64::from(self.request_id);
+        numbers[2] = i64::from(self.response_to);
+        numbers[3] = i64::from(self.flags);
+        numbers[4] = self.body.start as i64;
+        numbers[5] = self.body.len() as i64;
+        numbers[6] = self.sequences.len() as i64;
+        numbers[7] = self.elements as i64;
+        for (i, sequence) in self.sequences.iter().enumerate() {
+            let at = 8 + 5 * i;
+            numbers[at] = sequence.identifier.start as i64;
+            numbers[at + 1] = sequence.identifier.len() as i64;
+            numbers[at + 2] = sequence.documents.start as i64;
+            numbers[at + 3] = sequence.documents.end as i64;
+            numbers[at + 4] = sequence.count as i64;
+        }
+        numbers
+    }
+}
+
+fn refuse<T>(number: u32, place: usize) -> Result<T, Refused> {
+    Err(Refused { number, place })
+}
+
+// ---------------------------------------------------------------- numbers
+
+fn u32_at(bytes: &[u8], at: usize) -> u32 {
+    u32::from_le_bytes([bytes[at], bytes[at + 1], bytes[at + 2], bytes[at + 3]])
+}
+
+fn i32_at(bytes: &[u8], at: usize) -> i32 {
+    u32_at(bytes, at) as i32
+}
+
+/// The place of the first zero byte in the range.
+fn zero_in(bytes: &[u8], range: Range<usize>) -> Option<usize> {
+    range.into_iter().find(|&place| bytes[place] == 0)
+}
+
+// --------------------------------------------------------------- checksum
+
+/// CRC-32C as it is defined, bit by bit.
+pub fn crc32c_by_bits(bytes: &[u8]) -> u32 {
+    let mut crc = u32::MAX;
+    for &byte in bytes {
+        crc = eight_steps(crc ^ u32::from(byte));
+    }
+    !crc
+}
+
+/// CRC-32C with the eight steps of each byte looked up.
+pub fn crc32c(bytes: &[u8]) -> u32 {
+    static TABLE: [u32; 256] = step_table();
+    let mut crc = u32::MAX;
+    for &byte in bytes {
+        let low = (crc ^ u32::from(byte)) & 0xFF;
+        crc = (crc >> 8) ^ TABLE[low as usize];
+    }
+    !crc
+}
+
+const fn eight_steps(mut crc: u32) -> u32 {
+    let mut step = 0;
+    while step < 8 {
+        crc = if crc & 1 == 1 {
+            (crc >> 1) ^ 0x82F6_3B78
+        } else {
+            crc >> 1
+        };
+        step += 1;
+    }
+    crc
+}
+
+const fn step_table() -> [u32; 256] {
+    let mut table = [0; 256];
+    let mut low = 0;
+    while low < 256 {
+        table[low] = eight_steps(low as u32);
+        low += 1;
+    }
+    table
+}
+
+// ------------------------------------------------------------------- read
+
+pub fn read(edition: &Edition, buffer: &[u8]) -> Result<View, Refused> {
+    let length = read_header(buffer)?;
+    let message = &buffer[..length];
+    let flags = read_flags(edition, message)?;
+    let end = sections_end(message, flags)?;
+    let sections = read_sections(edition, message, end)?;
+    let Some(body) = sections.body else {
+        return refuse(22, end);
+    };
+    check_names(message, &sections.body_names)?;
+    check_identifiers(message, &sections.body_names, &sections.sequences)?;
+    Ok(View {
+        length,
+        request_id: i32_at(message, 4),
+        response_to: i32_at(message, 8),
+        flags: flags & edition.bits,
+        body,
+        sequences: sections.sequences,
+        elements: sections.elements,
+    })
+}
+
+/// Checks 1 to 6; answers messageLength.
+fn read_header(buffer: &[u8]) -> Result<usize, Refused> {
+    if buffer.len() < 16 {
+        return refuse(1, 0);
+    }
+    let stated = i32_at(buffer, 0);
+    if stated < 16 || stated > MAX_MESSAGE as i32 {
+        return refuse(2, 0);
+    }
+    let length = stated as usize;
+    if buffer.len() < length {
+        return refuse(3, 0);
+    }
+    match i32_at(buffer, 12) {
+        1 | 2001 | 2002 | 2004..=2007 => refuse(4, 12),
+        2012 => refuse(5, 12),
+        2013 => Ok(length),
+        _ => refuse(6, 12),
+    }
+}
+
+/// Check 7, 8 and 7 again; answers the flag word as it came.
+fn read_flags(edition: &Edition, message: &[u8]) -> Result<u32, Refused> {
+    if message.len() < 20 {
+        return refuse(7, 16);
+    }
+    let flags = u32_at(message, 16);
+    let unknown = flags & !edition.bits;
+    if unknown & 0xFFFF != 0 {
+        return refuse(8, 16);
+    }
+    if has_checksum(flags) && message.len() < 24 {
+        return refuse(7, 16);
+    }
+    Ok(flags)
+}
+
+/// Check 9; answers the end of the sections.
+fn sections_end(message: &[u8], flags: u32) -> Result<usize, Refused> {
+    if !has_checksum(flags) {
+        return Ok(message.len());
+    }
+    let end = message.len() - 4;
+    if u32_at(message, end) != crc32c(&message[..end]) {
+        return refuse(9, end);
+    }
+    Ok(end)
+}
+
+fn has_checksum(flags: u32) -> bool {
+    flags & 1 == 1
+}
+
+struct Sections {
+    body: Option<Range<usize>>,
+    body_names: Vec<Range<usize>>,
+    sequences: Vec<Sequence>,
+    elements: usize,
+}
+
+/// Checks 10 to 21, from left to right.
+fn read_sections(edition: &Edition, message: &[u8], end: usize) -> Result<Sections, Refused> {
+    let mut walk = Walk {
+        message,
+        elements: 0,
+    };
+    let mut body = None;
+    let mut body_names = Vec::new();
+    let mut sequences = Vec::new();
+    let mut at = 20;
+    while at < end {
+        match message[at] {
+            0 if body.is_some() => return refuse(11, at),
+            0 => {
+                let after = walk.document(at + 1, end, 1, &mut body_names)?;
+                body = Some(at + 1..after);
+                at = after;
+            }
+            1 if edition.sequences => {
+                if sequences.len() == MAX_SEQUENCES {
+                    return refuse(14, at);
+                }
+                let sequence = walk.sequence(at + 1, end)?;
+                at = sequence.documents.end;
+                sequences.push(sequence);
+            }
+            _ => return refuse(10, at),
+        }
+    }
+    Ok(Sections {
+        body,
+        body_names,
+        sequences,
+        elements: walk.elements,
+    })
+}
+
+/// The walk over all documents of a message; it counts the elements.
+struct Walk<'a> {
+    message: &'a [u8],
+    elements: usize,
+}
+
+impl Walk<'_> {
+    /// Reads a sequence from its size field on.
+    fn sequence(&mut self, at: usize, end: usize) -> Result<Sequence, Refused> {
+        if end - at < 4 {
+            return refuse(12, at);
+        }
+        let size = i32_at(self.message, at);
+        if size < 5 || size as usize > end - at {
+            return refuse(12, at);
+        }
+        let section_end = at + size as usize;
+        let first = at + 4;
+        let zero = match zero_in(self.message, first..section_end) {
+            Some(zero) if zero > first => zero,
+            _ => return refuse(13, first),
+        };
+        let mut count = 0;
+        let mut next = zero + 1;
+        while next < section_end {
+            next = self.document(next, section_end, 1, &mut Vec::new())?;
+            count += 1;
+        }
+        Ok(Sequence {
+            identifier: first..zero,
+            documents: zero + 1..section_end,
+            count,
+        })
+    }
+
+    /// Reads a document, lists the names of its own elements and answers the
+    /// place after it.
+    fn document(
+        &mut self,
+        start: usize,
+        enclosing_end: usize,
+        level: usize,
+        names: &mut Vec<Range<usize>>,
+    ) -> Result<usize, Refused> {
+        if level > MAX_LEVEL {
+            return refuse(20, start);
+        }
+        if enclosing_end - start < 4 {
+            return refuse(15, start);
+        }
+        let length = i32_at(self.message, start);
+        if length < 5 || length as usize > enclosing_end - start {
+            return refuse(15, start);
+        }
+        let after = start + length as usize;
+        let last = after - 1;
+        if self.message[last] != 0 {
+            return refuse(16, last);
+        }
+        let mut at = start + 4;
+        while at < last {
+            let (name, next) = self.element(at, last, level)?;
+            names.push(name);
+            at = next;
+        }
+        Ok(after)
+    }
+
+    /// Reads an element of a document whose last byte is at `last`; answers
+    /// its name and the place after it.
+    fn element(
+        &mut self,
+        at: usize,
+        last: usize,
+        level: usize,
+    ) -> Result<(Range<usize>, usize), Refused> {
+        if self.elements == MAX_ELEMENTS {
+            return refuse(21, at);
+        }
+        self.elements += 1;
+        let kind = self.message[at];
+        if !matches!(kind, 0x01..=0x13 | 0x7F | 0xFF) {
+            return refuse(17, at);
+        }
+        let name_start = at + 1;
+        let Some(zero) = zero_in(self.message, name_start..last) else {
+            return refuse(18, name_start);
+        };
+        let next = self.value(kind, zero + 1, last, level)?;
+        Ok((name_start..zero, next))
+    }
+
+    /// Reads a value; answers the place after it.
+    fn value(&mut self, kind: u8, at: usize, last: usize, level: usize) -> Result<usize, Refused> {
+        let found = match kind {
+            0x01 | 0x09 | 0x11 | 0x12 => fixed(at, 8, last),
+            0x10 => fixed(at, 4, last),
+            0x13 => fixed(at, 16, last),
+            0x07 => fixed(at, 12, last),
+            0x08 => fixed(at, 1, last).filter(|_| self.message[at] <= 1),
+            0x06 | 0x0A | 0x7F | 0xFF => Some(at),
+            0x02 | 0x0D | 0x0E => self.string(at, last),
+            0x05 => self.binary(at, last),
+            0x0B => self.two_names(at, last),
+            0x0C => self
+                .string(at, last)
+                .and_then(|after| fixed(after, 12, last)),
+            0x03 | 0x04 => return self.document(at, last, level + 1, &mut Vec::new()),
+            0x0F => return self.code_with_scope(at, last, level),
+            _ => unreachable!("the type was looked up in the table"),
+        };
+        match found {
+            Some(after) => Ok(after),
+            None => refuse(19, at),
+        }
+    }
+
+    fn string(&self, at: usize, limit: usize) -> Option<usize> {
+        let start = fixed(at, 4, limit)?;
+        let length = i32_at(self.message, at);
+        if length < 1 {
+            return None;
+        }
+        let after = fixed(start, length as usize, limit)?;
+        (self.message[after - 1] == 0).then_some(after)
+    }
+
+    fn binary(&self, at: usize, limit: usize) -> Option<usize> {
+        let start = fixed(at, 5, limit)?;
+        let length = i32_at(self.message, at);
+        if length < 0 {
+            return None;
+        }
+        fixed(start, length as usize, limit)
+    }
+
+    fn two_names(&self, at: usize, limit: usize) -> Option<usize> {
+        let first = zero_in(self.message, at..limit)?;
+        let second = zero_in(self.message, first + 1..limit)?;
+        Some(second + 1)
+    }
+
+    fn code_with_scope(&mut self, at: usize, last: usize, level: usize) -> Result<usize, Refused> {
+        if last - at < 4 {
+            return refuse(19, at);
+        }
+        let total = i32_at(self.message, at);
+        if total < 14 || total as usize > last - at {
+            return refuse(19, at);
+        }
+        let end = at + total as usize;
+        let Some(scope) = self.string(at + 4, end) else {
+            return refuse(19, at);
+        };
+        let after = self.document(scope, end, level + 1, &mut Vec::new())?;
+        if after != end {
+            return refuse(19, at);
+        }
+        Ok(end)
+    }
+}
+
+/// The place after `size` bytes, where they fit before the limit.
+fn fixed(at: usize, size: usize, limit: usize) -> Option<usize> {
+    (size <= limit - at).then_some(at + size)
+}
+
+/// Check 23.
+fn check_names(message: &[u8], names: &[Range<usize>]) -> Result<(), Refused> {
+    let mut seen = HashSet::new();
+    for name in names {
+        if !seen.insert(&message[name.clone()]) {
+            return refuse(23, name.start);
+        }
+    }
+    Ok(())
+}
+
+/// Check 24.
+fn check_identifiers(
+    message: &[u8],
+    names: &[Range<usize>],
+    sequences: &[Sequence],
+) -> Result<(), Refused> {
+    if sequences.is_empty() {
+        return Ok(());
+    }
+    let mut seen: HashSet<&[u8]> = names.iter().map(|name| &message[name.clone()]).collect();
+    for sequence in sequences {
+        if !seen.insert(&message[sequence.identifier.clone()]) {
+            return refuse(24, sequence.identifier.start);
+        }
+    }
+    Ok(())
+}
+
+// ----------------------------------------------- forward, write and append
+
+/// A view and the message that goes to the output.
+pub type Written = (View, Vec<u8>);
+
+pub fn forward(edition: &Edition, buffer: &[u8], room: usize) -> Result<Written, Refused> {
+    let view = read(edition, buffer)?;
+    if room < view.length {
+        return refuse(25, 0);
+    }
+    let message = forwarded(&view, buffer);
+    Ok((view, message))
+}
+
+/// The message as it is forwarded: the shown flag word, a new checksum.
+fn forwarded(view: &View, buffer: &[u8]) -> Vec<u8> {
+    let mut message = buffer[..view.length].to_vec();
+    message[16..20].copy_from_slice(&view.flags.to_le_bytes());
+    if has_checksum(view.flags) {
+        message.truncate(view.length - 4);
+        add_checksum(&mut message);
+    }
+    message
+}
+
+fn add_checksum(message: &mut Vec<u8>) {
+    let crc = crc32c(message);
+    message.extend(crc.to_le_bytes());
+}
+
+pub fn write(
+    edition: &Edition,
+    request_id: i32,
+    response_to: i32,
+    flags: u32,
+    body: &[u8],
+    room: usize,
+) -> Result<Written, Refused> {
+    if flags & !edition.bits != 0 {
+        return refuse(8, 16);
+    }
+    let length = 21 + body.len() + if has_checksum(flags) { 4 } else { 0 };
+    if length > MAX_MESSAGE {
+        return refuse(2, 0);
+    }
+    if room < length {
+        return refuse(25, 0);
+    }
+    if body.len() < 4 || i64::from(i32_at(body, 0)) != body.len() as i64 {
+        return refuse(15, 21);
+    }
+    let mut message = Vec::with_capacity(length);
+    message.extend((length as i32).to_le_bytes());
+    message.extend(request_id.to_le_bytes());
+    message.extend(response_to.to_le_bytes());
+    message.extend(2013i32.to_le_bytes());
+    message.extend(flags.to_le_bytes());
+    message.push(0);
+    message.extend(body);
+    if has_checksum(flags) {
+        add_checksum(&mut message);
+    }
+    let view = read(edition, &message)?;
+    Ok((view, message))
+}
+
+pub fn append(
+    edition: &Edition,
+    buffer: &[u8],
+    identifier: &[u8],
+    documents: &[u8],
+    room: usize,
+) -> Result<Written, Refused> {
+    let old = read(edition, buffer)?;
+    let checksum = if has_checksum(old.flags) { 4 } else { 0 };
+    let end = old.length - checksum;
+    if !edition.sequences {
+        return refuse(10, end);
+    }
+    if old.sequences.len() == MAX_SEQUENCES {
+        return refuse(14, end);
+    }
+    if identifier.is_empty() || identifier.contains(&0) {
+        return refuse(13, end + 5);
+    }
+    let size = 4 + identifier.len() + 1 + documents.len();
+    let length = old.length + 1 + size;
+    if length > MAX_MESSAGE {
+        return refuse(2, 0);
+    }
+    if room < length {
+        return refuse(25, 0);
+    }
+    let mut message = forwarded(&old, buffer);
+    message.truncate(end);
+    message.push(1);
+    message.extend((size as i32).to_le_bytes());
+    message.extend(identifier);
+    message.push(0);
+    message.extend(documents);
+    message[0..4].copy_from_slice(&(length as i32).to_le_bytes());
+    if checksum != 0 {
+        add_checksum(&mut message);
+    }
+    let view = read(edition, &message)?;
+    Ok((view, message))
+}

@@ -1,0 +1,126 @@
+//! Holds the plain reader that the benchmark compares with against the
+//! independent one: both must make the same checks.
+
+#[path = "../bench/plain.rs"]
+mod plain;
+
+mod common;
+
+use common::damage::damage;
+use common::generate::*;
+use common::random::Random;
+use common::reference::{self, Edition, Refused, View, MAX_MESSAGE};
+use common::setting;
+
+fn same_view(plain: &plain::View, view: &View) -> bool {
+    let numbers = view.numbers();
+    let head = [
+        plain.length as i64,
+        i64::from(plain.request_id),
+        i64::from(plain.response_to),
+        i64::from(plain.flags),
+        plain.body_start as i64,
+        plain.body_length as i64,
+        plain.sequence_count as i64,
+        plain.elements as i64,
+    ];
+    let rest = plain.sequences.iter().flat_map(|sequence| {
+        [
+            sequence.identifier_start as i64,
+            sequence.identifier_length as i64,
+            sequence.documents_start as i64,
+            sequence.documents_end as i64,
+            sequence.documents as i64,
+        ]
+    });
+    head.into_iter().chain(rest).eq(numbers)
+}
+
+fn compare(
+    answer: Result<plain::View, plain::Refused>,
+    expected: Result<(View, Vec<u8>), Refused>,
+    output: &[u8],
+) -> bool {
+    match (answer, expected) {
+        (Ok(view), Ok((expected, message))) => {
+            same_view(&view, &expected)
+                && output[..message.len()] == message
+                && output[message.len()..].iter().all(|&byte| byte == 0xAA)
+        }
+        (Err(refused), Err(expected)) => {
+            refused == (expected.number, expected.place) && output.iter().all(|&byte| byte == 0xAA)
+        }
+        _ => false,
+    }
+}
+
+#[test]
+fn the_plain_reader_agrees_with_the_independent_one() {
+    let seed = setting("RELAY_SEED", 1);
+    for case in 0..20_000 {
+        let random = &mut Random::for_case(seed ^ 0xBE, case);
+        let edition = any_edition(random);
+        let known = plain::Edition {
+            bits: edition.bits,
+            sequences: edition.sequences,
+        };
+        let message = any_message(random, &edition);
+        let room = random.between(0, 2) * message.len();
+        let mut output = vec![0xAA; room];
+
+        let answer = plain::read(known, &message);
+        let expected = reference::read(&edition, &message).map(|view| (view, Vec::new()));
+        assert!(
+            compare(answer, expected, &[]),
+            "seed {seed}, case {case}: read"
+        );
+
+        let answer = plain::forward(known, &message, &mut output);
+        let expected = reference::forward(&edition, &message, room);
+        assert!(
+            compare(answer, expected, &output),
+            "seed {seed}, case {case}: forward"
+        );
+
+        let style = any_style(random);
+        let documents = any_documents(random, style);
+        let identifier = random.text(3);
+        output.fill(0xAA);
+        let answer = plain::append(known, &message, &identifier, &documents, &mut output);
+        let expected = reference::append(&edition, &message, &identifier, &documents, room);
+        assert!(
+            compare(answer, expected, &output),
+            "seed {seed}, case {case}: append"
+        );
+
+        let flags = any_flags(random, &edition);
+        output.fill(0xAA);
+        let answer = plain::write(known, 1, -2, flags, &documents, &mut output);
+        let expected = reference::write(&edition, 1, -2, flags, &documents, room);
+        assert!(
+            compare(answer, expected, &output),
+            "seed {seed}, case {case}: write"
+        );
+    }
+}
+
+fn any_message(random: &mut Random, edition: &Edition) -> Vec<u8> {
+    let mut message = if random.percent(60) {
+        any_draft(random, edition).bytes()
+    } else {
+        faulty_draft(random, edition).bytes()
+    };
+    if random.percent(20) {
+        damage(random, &mut message);
+    }
+    message
+}
+
+#[test]
+fn the_plain_checksum_is_the_definition_s() {
+    let mut random = Random::new(3);
+    for length in (0..200).chain([4_000, MAX_MESSAGE]) {
+        let bytes = random.bytes(length);
+        assert_eq!(plain::crc32c(&bytes), reference::crc32c_by_bits(&bytes));
+    }
+}

@@ -1,0 +1,132 @@
+//! The C functions called as C calls them: null pointers with the length 0.
+
+mod common;
+
+use common::PING;
+use relay::ffi::c::*;
+use std::ptr::{null, null_mut};
+
+const HOUSE: u32 = 0x0001_0003;
+
+fn refusal(number: u64, place: u64) -> u64 {
+    number << 32 | place
+}
+
+#[test]
+fn a_null_message_is_an_empty_one() {
+    let mut view = [-1i64; 88];
+    let mut output = [0xAAu8; 64];
+    let view_at = view.as_mut_ptr();
+    let output_at = output.as_mut_ptr();
+    unsafe {
+        assert_eq!(relay_read(HOUSE, 1, null(), 0, view_at, 88), refusal(1, 0));
+        assert_eq!(
+            relay_forward(HOUSE, 1, null(), 0, output_at, 64, view_at, 88),
+            refusal(1, 0)
+        );
+        assert_eq!(
+            relay_append(
+                HOUSE,
+                1,
+                null(),
+                0,
+                null(),
+                0,
+                null(),
+                0,
+                output_at,
+                64,
+                view_at,
+                88
+            ),
+            refusal(1, 0)
+        );
+        assert_eq!(
+            relay_write(HOUSE, 1, 0, 0, 0, null(), 0, output_at, 64, view_at, 88),
+            refusal(15, 21)
+        );
+    }
+    assert_eq!(view, [-1; 88]);
+    assert_eq!(output, [0xAA; 64]);
+}
+
+#[test]
+fn a_null_output_is_too_short() {
+    let mut view = [-1i64; 88];
+    let view_at = view.as_mut_ptr();
+    let (ping, body) = (PING.as_ptr(), PING[21..].as_ptr());
+    unsafe {
+        assert_eq!(
+            relay_forward(HOUSE, 1, ping, 36, null_mut(), 0, view_at, 88),
+            refusal(25, 0)
+        );
+        assert_eq!(
+            relay_write(HOUSE, 1, 7, 0, 0, body, 15, null_mut(), 0, view_at, 88),
+            refusal(25, 0)
+        );
+        assert_eq!(
+            relay_append(
+                HOUSE,
+                1,
+                ping,
+                36,
+                b"d".as_ptr(),
+                1,
+                null(),
+                0,
+                null_mut(),
+                0,
+                view_at,
+                88
+            ),
+            refusal(25, 0)
+        );
+    }
+    assert_eq!(view, [-1; 88]);
+}
+
+#[test]
+fn a_null_view_is_too_short_after_the_other_refusals() {
+    let mut output = [0xAAu8; 64];
+    let ping = PING.as_ptr();
+    unsafe {
+        assert_eq!(
+            relay_read(HOUSE, 1, ping, 36, null_mut(), 0),
+            refusal(25, 0)
+        );
+        assert_eq!(relay_read(HOUSE, 1, ping, 35, null_mut(), 0), refusal(3, 0));
+        assert_eq!(
+            relay_forward(HOUSE, 1, ping, 36, output.as_mut_ptr(), 64, null_mut(), 0),
+            refusal(25, 0)
+        );
+    }
+    assert_eq!(output, [0xAA; 64]);
+}
+
+#[test]
+fn a_null_identifier_is_empty_and_null_documents_are_none() {
+    let mut view = [-1i64; 88];
+    let mut output = [0xAAu8; 64];
+    let mut append = |identifier: *const u8, length: usize| unsafe {
+        relay_append(
+            HOUSE,
+            1,
+            PING.as_ptr(),
+            36,
+            identifier,
+            length,
+            null(),
+            0,
+            output.as_mut_ptr(),
+            64,
+            view.as_mut_ptr(),
+            88,
+        )
+    };
+    assert_eq!(append(null(), 0), refusal(13, 41));
+    assert_eq!(append(b"d".as_ptr(), 1), 0);
+    assert_eq!(view[..13], [43, 7, 0, 0, 21, 15, 1, 1, 41, 1, 43, 43, 0]);
+    assert_eq!(view[13..], [0; 75]);
+    assert_eq!(output[36..43], [1, 6, 0, 0, 0, b'd', 0]);
+    assert_eq!(output[43..], [0xAA; 21]);
+}
