@@ -5,14 +5,13 @@ use mathlib.Core.Bool.{Bool, true, false}
 use mathlib.Core.Path.{_≡_, refl, sym, ap, _∙_}
 use mathlib.Core.List.{List, _∷_, _++_, append-nil}
 use native.Mathlib.Omega.{arith}
-use lib.ListN.{length, take, drop, length-append, length-drop, take-append-drop}
-use lib.Seq.{take-add, take-at, take-take, drop-drop, length-take-le}
+use lib.ListN.{length, take, drop, length-append, length-drop}
+use lib.Seq.{take-add, take-at, drop-drop}
 use borrow.Author.Tests.{le-ltb, lt-leb, eq-eqb, ne-eqb}
 use Rattle.wire.specs.Outcome.{ok, refuse, _>>=_}
 use Rattle.wire.specs.Walk.{walk}
 use Rattle.wire.specs.Bytes.{Bytes, word, wordAt, le32, signed, untilZero}
-use Rattle.wire.proofs.Bytes.{bytes-drop, word-lt, word-le32, le32-word, bits32-signed, wordAt-front}
-use Rattle.wire.proofs.Agree.{inner-take}
+use Rattle.wire.proofs.Bytes.{bytes-drop, word-lt, le32-word, bits32-signed, wordAt-front}
 use Rattle.wire.proofs.Walk.{walk-turns}
 use Rattle.protocol.specs.Flags.{kept, knows, checksummed}
 use Rattle.protocol.specs.Layout.{maxLength, messageLength, flagWord, sectionsEnd, sectionBytes}
@@ -26,11 +25,11 @@ use Rattle.message.specs.Editions.{Room}
 use Rattle.message.specs.RoundTrip.{firstMessage}
 use Rattle.protocol.specs.declared.Edition.{Edition}
 use Rattle.protocol.specs.declared.View.{View}
-use Rattle.protocol.proofs.Accepted.{Differ, reads, accepted}
-use Rattle.protocol.proofs.Limits.{maxLength-small}
+use Rattle.protocol.proofs.Accepted.{Sound, Differ, reads, accepted}
 use Rattle.protocol.proofs.Section.{section-steady}
 use Rattle.protocol.proofs.Bits.{Known, known-allKnown, kept-all}
-use Rattle.message.proofs.Message.{size-with, size-without, checksum-with, checksum-without, right-checksum, Headed, message-header, message-flags, message-end, message-sections, message-length, message-sound, stated-length, stated-end}
+use Rattle.message.proofs.Message.{size-with, size-without, checksum-with, checksum-without, right-checksum, stated-length, stated-end}
+use Rattle.message.proofs.Appended.{appended-flags, appended-end, appended-sections, appended-length, appended-sound, appended-rest}
 
 -- the message s with sections ys
 abbrev pub made : List ℕ → List ℕ → List ℕ
@@ -44,14 +43,8 @@ module _ (e : Edition) (s : List ℕ) (v : View) (h : read e s ≡ ok v) (b : By
   pub flags-kept : kept (e .bits) (flagWord s) ≡ flagWord s
   flags-kept = kept-all (e .bits) (flagWord s) known flags-lt
 
-  rest-length : length (take 12 (drop 4 s)) ≡ 12
-  rest-length = length-take-le 12 (drop 4 s) (rw length-drop (omega (arith, reads h .sound)))
-
   -- a front of the sections
   module _ (ys : List ℕ) (l : length ys ≤ length (sectionBytes s)) where
-    abbrev header : List ℕ
-    header = le32 (wholeLength (flagWord s) ys) ++ take 12 (drop 4 s)
-
     pub made-fits : wholeLength (flagWord s) ys ≤ messageLength s
     unfolding wholeLength
     made-fits = omega (arith, stated-length s (reads h .sound))
@@ -59,59 +52,36 @@ module _ (e : Edition) (s : List ℕ) (v : View) (h : read e s ≡ ok v) (b : By
     made-limit : wholeLength (flagWord s) ys ≤ maxLength
     made-limit = omega (arith, made-fits, reads h .sound .limit)
 
-    made-headed : Headed header (flagWord s) ys
-    unfolding wordAt le32
-    made-headed = record {
-      sixteen = rw rest-length;
-      stated = word-le32 (wholeLength (flagWord s) ys) _ (omega (arith, made-limit, maxLength-small));
-      small = flags-lt;
-    }
-
-    made-opcode : wordAt 12 header ≡ 2013
-    unfolding wordAt le32
-    made-opcode =
-        sym (wordAt-front 8 (take 12 (drop 4 s)) (drop 12 (drop 4 s)) (omega (arith, rest-length)))
-        ∙ ap (wordAt 8) (take-append-drop 12 (drop 4 s)) ∙ ap word (drop-drop 8 4 s) ∙ reads h .sound .opcode
-
     pub made-flags : flagWord (made s ys) ≡ flagWord s
-    unfolding appended
-    made-flags = message-flags header (flagWord s) ys made-headed
+    made-flags = appended-flags s (reads h .sound) (flagWord s) ys flags-lt made-limit
 
     pub made-sections : sectionBytes (made s ys) ≡ ys
-    unfolding appended
-    made-sections = message-sections header (flagWord s) ys made-headed
+    made-sections = appended-sections s (reads h .sound) (flagWord s) ys flags-lt made-limit
 
-    made-rest : take 12 (drop 4 (made s ys)) ≡ take 12 (drop 4 s)
-    unfolding appended le32
-    made-rest =
-        sym (inner-take 12 4 16 (made s ys) (omega arith))
-        ∙ ap (λ (m : List ℕ). take 12 (drop 4 m)) (message-header header (flagWord s) ys made-headed)
-        ∙ take-take 12 12 (drop 4 s) (omega arith)
+    made-sound : Sound (made s ys)
+    made-sound = appended-sound s (reads h .sound) (flagWord s) ys flags-lt made-limit
 
     -- appending to it gives it with other sections
     pub appended-made : (zs : List ℕ) → appended (made s ys) (flagWord s) zs ≡ made s zs
-    appended-made zs = unfold appended in rw made-rest
+    appended-made zs = unfold appended in rw (appended-rest s (reads h .sound) (flagWord s) ys flags-lt made-limit)
 
     -- it is read as its sections are
     pub made-read : (p : Parts) → walk (sectionAt e) (length ys) 20 ys nothing ≡ ok p → 0 < bodyStart (p .sections) → Differ ys (p .sections)
         → read e (made s ys) ≡ ok (viewOf e (made s ys) p)
-    unfolding parts appended
+    unfolding parts
     made-read p w i d =
-        let g = made-headed in
         let a : parts e (made s ys) ≡ ok p =
-        rw (message-end header (flagWord s) ys g, message-sections header (flagWord s) ys g)
+        rw (appended-end s (reads h .sound) (flagWord s) ys flags-lt made-limit, made-sections)
         (walk-turns (sectionAt e) (section-steady e .advances) (20 + length ys) (length ys) 20 ys nothing (omega arith) (omega arith) ∙ w) in
-        accepted e (made s ys) (message-sound header (flagWord s) ys g made-limit made-opcode) (rw made-flags (reads h .bits)) p a
+        accepted e (made s ys) made-sound (rw made-flags (reads h .bits)) p a
         (ne-eqb (bodyStart (p .sections)) 0 (λ z. omega arith)) (rw made-sections d)
 
     -- it is the first message of an output that begins with it
     pub first-made : (r : List ℕ) → firstMessage (made s ys ++ r) ≡ made s ys
-    unfolding firstMessage appended
+    unfolding firstMessage
     first-made r =
-        let g = made-headed in
-        let a : length (made s ys) ≡ messageLength (made s ys) = message-length header (flagWord s) ys g in
-        let k = message-sound header (flagWord s) ys g made-limit made-opcode in
-        let c : 4 ≤ length (made s ys) = omega (arith, k .least) in
+        let a : length (made s ys) ≡ messageLength (made s ys) = appended-length s (reads h .sound) (flagWord s) ys flags-lt made-limit in
+        let c : 4 ≤ length (made s ys) = omega (arith, made-sound .least) in
         rw (wordAt-front 0 (made s ys) r c) (take-at (made s ys) r (messageLength (made s ys)) a)
 
   -- one sequence is appended

@@ -24,17 +24,17 @@ use Rattle.protocol.proofs.Shown.{padded-set, sequences-append, Started, starte
 -- ---- one section more
 
 -- a sequence changes nothing of the body, and a body nothing of the sequences
-body-stays : (qs : List Section) (place : ℕ) (q : Sequence) → (bodyStart (qs ++ (sequence place q ∷ [])) ≡ bodyStart qs) × (bodySize (qs ++ (sequence place q ∷ [])) ≡ bodySize qs)
+pub body-stays : (qs : List Section) (place : ℕ) (q : Sequence) → (bodyStart (qs ++ (sequence place q ∷ [])) ≡ bodyStart qs) × (bodySize (qs ++ (sequence place q ∷ [])) ≡ bodySize qs)
 unfolding bodyStart bodySize
 body-stays [] place q = (refl, refl)
 body-stays (body a b c ∷ qs) place q = (refl, refl)
 body-stays (sequence a r ∷ qs) place q = body-stays qs place q
 
-sequences-stay : (qs : List Section) (place start size : ℕ) → sequencesOf (qs ++ (body place start size ∷ [])) ≡ sequencesOf qs
+pub sequences-stay : (qs : List Section) (place start size : ℕ) → sequencesOf (qs ++ (body place start size ∷ [])) ≡ sequencesOf qs
 unfolding sequencesOf
 sequences-stay qs place start size = sequences-append qs _ ∙ append-nil (sequencesOf qs)
 
-sequences-more : (qs : List Section) (place : ℕ) (q : Sequence) → sequencesOf (qs ++ (sequence place q ∷ [])) ≡ sequencesOf qs ++ (q ∷ [])
+pub sequences-more : (qs : List Section) (place : ℕ) (q : Sequence) → sequencesOf (qs ++ (sequence place q ∷ [])) ≡ sequencesOf qs ++ (q ∷ [])
 unfolding sequencesOf
 sequences-more qs place q = sequences-append qs _
 

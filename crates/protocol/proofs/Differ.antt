@@ -34,14 +34,14 @@ pub within-append : (n : ℕ) (qs rs : List Sequence) → Within n qs → Within
 within-append n [] rs h k = k
 within-append n (q ∷ qs) rs h k = (h .0, within-append n qs rs (h .1) k)
 
-front-part : (ys zs : List ℕ) (place n : ℕ) → (place - 20) + n ≤ length ys → part (ys ++ zs) place n ≡ part ys place n
+pub front-part : (ys zs : List ℕ) (place n : ℕ) → (place - 20) + n ≤ length ys → part (ys ++ zs) place n ≡ part ys place n
 unfolding part
 front-part ys zs place n h =
     let l : place - 20 ≤ length ys = omega arith in
     let k : n ≤ length (drop (place - 20) ys) = rw length-drop (omega arith) in
     rw (drop-append-le (place - 20) ys zs l) (take-append-le n (drop (place - 20) ys) zs k)
 
-front-identifiers : (ys zs : List ℕ) (qs : List Sequence) → Within (length ys) qs → map (identifier (ys ++ zs)) qs ≡ map (identifier ys) qs
+pub front-identifiers : (ys zs : List ℕ) (qs : List Sequence) → Within (length ys) qs → map (identifier (ys ++ zs)) qs ≡ map (identifier ys) qs
 unfolding identifier
 front-identifiers ys zs [] h = refl
 front-identifiers ys zs (q ∷ qs) h = rw (front-part ys zs (q .name) (q .«name_length») (h .0), front-identifiers ys zs qs (h .1))

@@ -21,6 +21,7 @@ use Rattle.bson.proofs.Steady.{document-steady}
 use Rattle.protocol.specs.Flags.{knows}
 use Rattle.protocol.specs.Sections.{maxSequences, Section, body, sequence, placeOf, kindOf, bodyStart, sequencesOf, Parts, nextDocument, bodySection, sequenceRun, sequenceSection, sectionOf, sectionAt}
 use Rattle.protocol.specs.declared.Edition.{Edition}
+use Rattle.protocol.specs.declared.Sequence.{Sequence}
 
 -- a body that is read
 pub record BodyRead (at : ℕ) (xs : List ℕ) (p : Parts) (one : Step Parts) : Type 0 where
@@ -57,8 +58,11 @@ abbrev pub nameLength : List ℕ → ℕ
 nameLength xs = untilZero (take (stated xs - 4) (drop 5 xs))
 
 -- and so what it is, with its number of documents
+abbrev pub entryAt : ℕ → List ℕ → (documents : ℕ) → Sequence
+entryAt at xs documents = record { name = at + 5; «name_length» = nameLength xs; start = at + (nameLength xs + 6); end = at + (1 + stated xs); documents = documents }
+
 abbrev pub sequenceAt : ℕ → List ℕ → (documents : ℕ) → Section
-sequenceAt at xs documents = sequence at (record { name = at + 5; «name_length» = nameLength xs; start = at + (nameLength xs + 6); end = at + (1 + stated xs); documents = documents })
+sequenceAt at xs documents = sequence at (entryAt at xs documents)
 
 -- a sequence that is read
 pub record SequenceRead (at : ℕ) (xs : List ℕ) (p : Parts) (one : Step Parts) : Type 0 where

@@ -7,9 +7,13 @@ use protocol::Verdict;
 ghost use mathlib.Core.Path.{_≡_};
 ghost use Prim.Native.Nat.{ℕ, _+_, _*_, _%_, _^_, _<_};
 ghost use lib.ListN.{length};
+ghost use lib.IntN.{ℤ};
+ghost use mir.Syntax.{w32};
+ghost use mir.Val.{SFits};
 ghost use Rattle.protocol.specs.Read.{read};
 ghost use Rattle.message.specs.Message.{viewed, output};
 ghost use Rattle.message.specs.Forward.{forward};
+ghost use Rattle.message.specs.Write.{write};
 ghost use Rattle.relay_c.specs.Interface.{editionOf, withRoom, result, numbers};
 
 fn edition(bits: u32, sequences: u8) -> Edition
@@ -79,6 +83,46 @@ fn forward_refused(e: Edition, message: &[u8]) -> u64
 {
     let r = opmsg::read(e, message);
     let verdict = r.verdict;
+    if let Verdict::Refused { number, place } = verdict {
+        return refusal(number, place);
+    }
+    refusal(25, 0)
+}
+
+#[no_mangle]
+pub extern "C" fn relay_write(
+    bits: u32,
+    sequences: u8,
+    request_id: i32,
+    response_to: i32,
+    flags: u32,
+    body: &[u8],
+    out: &mut [u8],
+    view: &mut [i64],
+) -> u64
+    ensures answers { λ r. ⌜ r ≡ result (withRoom (length (now (view .entry))) (write (editionOf bits sequences) «request_id» «response_to» flags (now (body .entry)) (length (now (out .entry))))) ⌝ }
+    ensures writes { λ _. ⌜ now (out .exit) ≡ output (withRoom (length (now (view .entry))) (write (editionOf bits sequences) «request_id» «response_to» flags (now (body .entry)) (length (now (out .entry))))) (now (out .entry)) ⌝ }
+    ensures shows { λ _. ⌜ now (view .exit) ≡ numbers (viewed (withRoom (length (now (view .entry))) (write (editionOf bits sequences) «request_id» «response_to» flags (now (body .entry)) (length (now (out .entry)))))) (now (view .entry)) ⌝ }
+{
+    let e = edition(bits, sequences);
+    if view.len() < 88 {
+        return write_refused(e, flags, body, out.len());
+    }
+    let r = writing::write(e, request_id, response_to, flags, body, out);
+    let verdict = r.verdict;
+    if let Verdict::Refused { number, place } = verdict {
+        return refusal(number, place);
+    }
+    let shown = r.view;
+    show(shown, view);
+    0
+}
+
+// What a call that writes answers where there is no room for the view: its own refusal, or 25.
+fn write_refused(e: Edition, flags: u32, body: &[u8], room: usize) -> u64
+    ensures { λ r. ⌜ ((numbers : ℕ) (i j : ℤ) → numbers < 88 → SFits w32 i → SFits w32 j → r ≡ result (withRoom numbers (write e i j flags (now (body .entry)) room))) ⌝ }
+{
+    let verdict = writing::check(e, flags, body, room);
     if let Verdict::Refused { number, place } = verdict {
         return refusal(number, place);
     }

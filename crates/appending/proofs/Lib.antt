@@ -1,0 +1,5 @@
+pub mod Held
+pub mod Section
+pub mod Appending
+pub mod Answers
+pub mod Stored
