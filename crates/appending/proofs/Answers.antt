@@ -27,17 +27,6 @@ use Rattle.appending.specs.Grown.{allowed, grown, Ready}
 use Rattle.appending.proofs.Held.{Held, accepted-held}
 use Rattle.appending.proofs.Appending.{Allowed, allows, end-is, shows, append-barred, append-documents, append-taken, append-grown}
 
--- a reading that refuses, and one that accepts
-pub read-refused : {r : Reading} (o : Outcome View) → r ≡ answer o → {number place : ℕ} → r .verdict ≡ Refused number place → o ≡ refused number place
-unfolding answer
-read-refused (ok v) e h = let z : _≡_ {A = ℕ} 0 1 = cc (ap (λ (r : Reading). r .verdict) e) in absurd (omega arith)
-read-refused (refused n p) e h = cc (ap (λ (r : Reading). r .verdict) e)
-
-pub read-accepted : {r : Reading} (o : Outcome View) → r ≡ answer o → r .verdict ≡ Accepted → o ≡ ok (r .view)
-unfolding answer
-read-accepted (ok v) e h = ap ok (sym (ap (λ (r : Reading). r .view) e))
-read-accepted (refused n p) e h = let z : _≡_ {A = ℕ} 0 1 = cc (ap (λ (r : Reading). r .verdict) e) in absurd (omega arith)
-
 -- the checksum is in the message
 pub checksum-within : (e : Edition) (s : List ℕ) (v : View) → read e s ≡ ok v → checksumSize (v .flags) ≤ v .length
 checksum-within e s v h = omega (arith, checksum-small (v .flags), view-length e s v h, reads h .sound .least)

@@ -14,6 +14,7 @@ ghost use Rattle.protocol.specs.Read.{read};
 ghost use Rattle.message.specs.Message.{viewed, output};
 ghost use Rattle.message.specs.Forward.{forward};
 ghost use Rattle.message.specs.Write.{write};
+ghost use Rattle.message.specs.Append.{append};
 ghost use Rattle.relay_c.specs.Interface.{editionOf, withRoom, result, numbers};
 
 fn edition(bits: u32, sequences: u8) -> Edition
@@ -123,6 +124,51 @@ fn write_refused(e: Edition, flags: u32, body: &[u8], room: usize) -> u64
     ensures { λ r. ⌜ ((numbers : ℕ) (i j : ℤ) → numbers < 88 → SFits w32 i → SFits w32 j → r ≡ result (withRoom numbers (write e i j flags (now (body .entry)) room))) ⌝ }
 {
     let verdict = writing::check(e, flags, body, room);
+    if let Verdict::Refused { number, place } = verdict {
+        return refusal(number, place);
+    }
+    refusal(25, 0)
+}
+
+#[no_mangle]
+pub extern "C" fn relay_append(
+    bits: u32,
+    sequences: u8,
+    message: &[u8],
+    identifier: &[u8],
+    documents: &[u8],
+    out: &mut [u8],
+    view: &mut [i64],
+) -> u64
+    ensures answers { λ r. ⌜ r ≡ result (withRoom (length (now (view .entry))) (append (editionOf bits sequences) (now (message .entry)) (now (identifier .entry)) (now (documents .entry)) (length (now (out .entry))))) ⌝ }
+    ensures writes { λ _. ⌜ now (out .exit) ≡ output (withRoom (length (now (view .entry))) (append (editionOf bits sequences) (now (message .entry)) (now (identifier .entry)) (now (documents .entry)) (length (now (out .entry))))) (now (out .entry)) ⌝ }
+    ensures shows { λ _. ⌜ now (view .exit) ≡ numbers (viewed (withRoom (length (now (view .entry))) (append (editionOf bits sequences) (now (message .entry)) (now (identifier .entry)) (now (documents .entry)) (length (now (out .entry)))))) (now (view .entry)) ⌝ }
+{
+    let e = edition(bits, sequences);
+    if view.len() < 88 {
+        return append_refused(e, message, identifier, documents, out.len());
+    }
+    let r = appending::append(e, message, identifier, documents, out);
+    let verdict = r.verdict;
+    if let Verdict::Refused { number, place } = verdict {
+        return refusal(number, place);
+    }
+    let shown = r.view;
+    show(shown, view);
+    0
+}
+
+// What a call that appends answers where there is no room for the view: its own refusal, or 25.
+fn append_refused(
+    e: Edition,
+    message: &[u8],
+    identifier: &[u8],
+    documents: &[u8],
+    room: usize,
+) -> u64
+    ensures { λ r. ⌜ ((numbers : ℕ) → numbers < 88 → r ≡ result (withRoom numbers (append e (now (message .entry)) (now (identifier .entry)) (now (documents .entry)) room))) ⌝ }
+{
+    let verdict = appending::check(e, message, identifier, documents, room);
     if let Verdict::Refused { number, place } = verdict {
         return refusal(number, place);
     }

@@ -1,0 +1,22 @@
+-- Document 01's example of a listing is what the definitions say.
+-- Assumes nothing.
+use mathlib.Core.Path.{refl}
+use Rattle.wire.specs.Outcome.{refuse, _>>=_}
+use Rattle.wire.specs.Bytes.{word, wordAt, under, signed, untilZero, oneOf}
+use Rattle.wire.specs.Walk.{walk}
+use Rattle.bson.specs.Value.{sized, table, ruleIn}
+use Rattle.bson.specs.Document.{maxLevels, maxElements, frame, head, inside, element, documentAt, sizeOf, elementSize}
+use Rattle.protocol.specs.Flags.{common, kept, allKnown, checksummed, knows}
+use Rattle.protocol.specs.Layout.{maxLength, checksumSize, sectionsEnd, sectionBytes, checksumDiffers}
+use Rattle.protocol.specs.Sections.{maxSequences, bodyStart, bodySize, sequencesOf, bodySection, sectionOf, sectionAt}
+use Rattle.protocol.specs.Names.{sameText, among, distinct, elementNames, part, bodyNames, identifier, identifiers, texts}
+use Rattle.protocol.specs.View.{padded, viewOf}
+use Rattle.protocol.specs.Read.{header, flagged, parts, distinctNames, content, read}
+use Rattle.listing.specs.Decimal.{digits, decimal, signedDecimal}
+use Rattle.listing.specs.Lines.{line, firstLine, messageLine, badLine, endLine}
+use Rattle.listing.specs.Next.{stepOf, next}
+use Rattle.listing.specs.Listing.{lines, listing, Example}
+
+example : Example
+unfolding _>>=_ refuse word wordAt under signed untilZero oneOf walk sized table ruleIn maxLevels maxElements frame head inside element documentAt sizeOf elementSize common kept allKnown checksummed knows maxLength checksumSize sectionsEnd sectionBytes checksumDiffers maxSequences bodyStart bodySize sequencesOf bodySection sectionOf sectionAt sameText among distinct elementNames part bodyNames identifier identifiers texts padded viewOf header flagged parts distinctNames content read digits decimal signedDecimal line firstLine messageLine badLine endLine stepOf next lines listing
+example = refl

@@ -1,0 +1,38 @@
+-- `listing::stream::judge` meets its contract: the reading's verdict tells which.
+-- Assumes nothing.
+use mir.Syntax.{w32}
+use mir.Facts.{toZ-ofZ}
+use borrow.Author.Needs.{needs}
+use Rattle.protocol.specs.Read.{read}
+use Rattle.listing.specs.Next.{house, stepOf}
+use Rattle.listing.proofs.Next.{refused-reading, accepted-reading, within-bytes}
+use Rattle.listing.proofs.stream.judge.Statement.{statement}
+use Rattle.listing.proofs.stream.judge.Tie as tie
+
+returns : tie.Need-returns
+unfolding stepOf
+returns c =
+    let p3 = c .before .before .before in
+    (rw (refused-reading (read house (p3 .before .before .args .s .now)) (p3 .read .result) _ _ (p3 .read .ensures) (c .before .verdict .given .1)), tt)
+
+returns-2 : tie.Need-returns-2
+unfolding stepOf
+returns-2 c =
+    let p2 = c .before .before in
+    let p4 = p2 .before .before in
+    let p6 = p4 .before .before in
+    let a = accepted-reading (read house (p6 .args .s .now)) (p4 .read .result) (p4 .read .ensures) (p2 .enum-told .given .1) in
+    let v = p4 .read .result .view in
+    let first = toZ-ofZ {w = w32} {z = v .«request_id»} (record { sfits = c .struct-told .given .1 .0 .1 }) in
+    let second = toZ-ofZ {w = w32} {z = v .«response_to»} (record { sfits = c .struct-told .given .1 .1 .0 .1 }) in
+    (rw (a, first, second), within-bytes house (p6 .args .s .now) (p4 .read .result .view) a)
+
+pub judge-spec : {M : Type 1} → statement M
+judge-spec =
+    tie.close
+    (tie.spec
+    (λ c κs. search needs)
+    (λ c. search needs)
+    returns
+    (λ c. search needs)
+    returns-2)

@@ -1,0 +1,90 @@
+// A stream of messages back to back, of which a buffer holds a part.
+use crate::Step;
+use crate::Summary;
+use protocol::Edition;
+use protocol::Verdict;
+use opmsg::header::LENGTH;
+use wire::under;
+use wire::word;
+ghost use mathlib.Core.Path.{_≡_};
+ghost use lib.ListN.{length};
+ghost use Rattle.protocol.specs.Read.{read};
+ghost use Rattle.listing.specs.Next.{house, short, stepOf, next, Within};
+ghost use Rattle.listing.specs.Written.{toFront};
+
+// The bytes at hand are short of a header, or of the message whose length it says.
+fn short(s: &[u8]) -> bool
+    ensures { λ r. ⌜ r ≡ short (now (s .entry)) ⌝ }
+{
+    if s.len() < 16 {
+        return true;
+    }
+    let n = word(s);
+    if under(16, n) {
+        return false;
+    }
+    if LENGTH < n {
+        return false;
+    }
+    s.len() < n as usize
+}
+
+// What a reading by the house edition says comes next.
+fn judge(s: &[u8]) -> Step
+    ensures { λ r. ⌜ r ≡ stepOf (read house (now (s .entry))) ⌝ }
+    ensures { λ r. ⌜ Within (length (now (s .entry))) r ⌝ }
+{
+    let house = Edition {
+        bits: 0x1_0003,
+        sequences: true,
+    };
+    let reading = opmsg::read(house, s);
+    let verdict = reading.verdict;
+    if let Verdict::Refused { number, place } = verdict {
+        return Step::Bad { number, place };
+    }
+    let view = reading.view;
+    Step::Message(Summary {
+        length: view.length,
+        request_id: view.request_id,
+        response_to: view.response_to,
+        flags: view.flags,
+        sequences: view.sequence_count,
+        elements: view.elements,
+    })
+}
+
+// What comes next, where s are the bytes at hand; more may follow unless the input has ended.
+pub fn next(s: &[u8], ended: bool) -> Step
+    ensures { λ r. ⌜ r ≡ next ended (now (s .entry)) ⌝ }
+    ensures { λ r. ⌜ Within (length (now (s .entry))) r ⌝ }
+{
+    if !ended {
+        if short(s) {
+            return Step::More;
+        }
+        return judge(s);
+    }
+    if s.len() == 0 {
+        return Step::End;
+    }
+    judge(s)
+}
+
+// Moves the bytes from a place to an end to the front, where there are such bytes; else nothing changes.
+pub fn to_front(s: &mut [u8], at: usize, end: usize)
+    ensures { λ _. ⌜ now (s .exit) ≡ toFront at end (now (s .entry)) ⌝ }
+{
+    if end < at {
+        return;
+    }
+    if s.len() < end {
+        return;
+    }
+    let n = end - at;
+    let mut i = 0;
+    while i < n {
+        s[i] = s[at + i];
+        i += 1;
+    }
+}
