@@ -19,7 +19,7 @@ use Rattle.appending.specs.declared.Found.the-variants as found
 abbrev pub Examined : Edition → (s : List ℕ) → View → (identifier documents : List ℕ) → (room : ℕ) → Found → Type 0
 Examined e s v identifier documents room (found.New end number elements) = Ready e s identifier documents v end number elements room
     × (append e s identifier documents room
-        ≡ ok (record { view = grown v end (length identifier) (length documents) number elements; bytes = appended s (v .flags) (take (end - 20) (drop 20 s) ++ sequenceBytes identifier documents) }))
+    ≡ ok (record { view = grown v end (length identifier) (length documents) number elements; bytes = appended s (v .flags) (take (end - 20) (drop 20 s) ++ sequenceBytes identifier documents) }))
 Examined e s v identifier documents room (found.Refused number place) = append e s identifier documents room ≡ refused number place
 
 -- a call accepts, or it refuses

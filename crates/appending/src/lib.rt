@@ -88,14 +88,7 @@ fn repeated(s: &[u8], v: View, end: usize, identifier: &[u8]) -> bool
 }
 
 // Everything that an append to a message with that view decides before it writes.
-fn examine(
-    e: Edition,
-    s: &[u8],
-    v: View,
-    identifier: &[u8],
-    documents: &[u8],
-    room: usize,
-) -> Found
+fn examine(e: Edition, s: &[u8], v: View, identifier: &[u8], documents: &[u8], room: usize) -> Found
     requires { ⌜ read e (now s) ≡ ok v ⌝ }
     ensures { λ r. ⌜ Examined e (now (s .entry)) v (now (identifier .entry)) (now (documents .entry)) room r ⌝ }
 {

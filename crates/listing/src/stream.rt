@@ -1,9 +1,9 @@
 // A stream of messages back to back, of which a buffer holds a part.
 use crate::Step;
 use crate::Summary;
+use opmsg::header::LENGTH;
 use protocol::Edition;
 use protocol::Verdict;
-use opmsg::header::LENGTH;
 use wire::under;
 use wire::word;
 ghost use mathlib.Core.Path.{_≡_};

@@ -42,10 +42,10 @@ repeated-requires c κs =
     let p8 = p6 .before .before in
     let p12 = p8 .before .before .before .before in
     let k : Ready (p12 .args .e) (p12 .args .s .now) (p12 .args .identifier .now) (p12 .args .documents .now) (p12 .args .v) _ _ _ (p12 .args .room) = record {
-    ended = end-of _ _ _ (p12 .pre) _ (p8 .checksum-size .ensures);
-    shown = p12 .pre;
-    passed = sym (p6 .checks .ensures) ∙ ap judged (p4 .enum-told .given .1);
-    counted = sym (p3 .documents .ensures _ (omega arith)) ∙ ap ran (c .before .number .given .1);
+      ended = end-of _ _ _ (p12 .pre) _ (p8 .checksum-size .ensures);
+      shown = p12 .pre;
+      passed = sym (p6 .checks .ensures) ∙ ap judged (p4 .enum-told .given .1);
+      counted = sym (p3 .documents .ensures _ (omega arith)) ∙ ap ran (c .before .number .given .1);
     } in
     (ready-low k, ready-inside k, omega (arith, ready-allowed k .few), ready-body k, ready-filled k)
 
@@ -58,10 +58,10 @@ returns-2 c =
     let p10 = p8 .before .before in
     let p14 = p10 .before .before .before .before in
     let k : Ready (p14 .args .e) (p14 .args .s .now) (p14 .args .identifier .now) (p14 .args .documents .now) (p14 .args .v) _ _ _ (p14 .args .room) = record {
-    ended = end-of _ _ _ (p14 .pre) _ (p10 .checksum-size .ensures);
-    shown = p14 .pre;
-    passed = sym (p8 .checks .ensures) ∙ ap judged (p6 .enum-told .given .1);
-    counted = sym (p5 .documents .ensures _ (omega arith)) ∙ ap ran (p3 .number .given .1);
+      ended = end-of _ _ _ (p14 .pre) _ (p10 .checksum-size .ensures);
+      shown = p14 .pre;
+      passed = sym (p8 .checks .ensures) ∙ ap judged (p6 .enum-told .given .1);
+      counted = sym (p5 .documents .ensures _ (omega arith)) ∙ ap ran (p3 .number .given .1);
     } in
     ready-taken k (c .before .repeated .result) (c .before .repeated .ensures) (c .if1 .taken)
 
@@ -74,10 +74,10 @@ returns-3 c =
     let p10 = p8 .before .before in
     let p14 = p10 .before .before .before .before in
     let k : Ready (p14 .args .e) (p14 .args .s .now) (p14 .args .identifier .now) (p14 .args .documents .now) (p14 .args .v) _ _ _ (p14 .args .room) = record {
-    ended = end-of _ _ _ (p14 .pre) _ (p10 .checksum-size .ensures);
-    shown = p14 .pre;
-    passed = sym (p8 .checks .ensures) ∙ ap judged (p6 .enum-told .given .1);
-    counted = sym (p5 .documents .ensures _ (omega arith)) ∙ ap ran (p3 .number .given .1);
+      ended = end-of _ _ _ (p14 .pre) _ (p10 .checksum-size .ensures);
+      shown = p14 .pre;
+      passed = sym (p8 .checks .ensures) ∙ ap judged (p6 .enum-told .given .1);
+      counted = sym (p5 .documents .ensures _ (omega arith)) ∙ ap ran (p3 .number .given .1);
     } in
     (k, ready-grown k (c .before .repeated .result) (c .before .repeated .ensures) (c .if1 .left))
 
