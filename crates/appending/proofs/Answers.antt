@@ -2,22 +2,19 @@
 -- Assumes nothing.
 use Prim.Native.Nat.{ℕ, _+_, _-_, _^_, _<_, _≤_}
 use mathlib.Core.Bool.{Bool, true, false}
-use mathlib.Core.Path.{_≡_, sym, ap, _∙_}
+use mathlib.Core.Path.{_≡_, sym, _∙_}
 use mathlib.Core.List.{List, _++_}
 use native.Mathlib.Omega.{arith}
 use lib.ListN.{length, take, drop}
-use Rattle.wire.specs.Outcome.{Outcome, ok, refused}
+use Rattle.wire.specs.Outcome.{ok, refused}
 use Rattle.wire.specs.Walk.{walk}
 use Rattle.protocol.specs.Layout.{checksumSize, sectionsEnd, sectionBytes}
 use Rattle.protocol.specs.Sections.{Section, nextDocument}
 use Rattle.protocol.specs.Names.{among, part, bodyNames, identifiers, texts}
-use Rattle.protocol.specs.View.{answer}
 use Rattle.protocol.specs.Read.{read}
 use Rattle.protocol.specs.Answers.{Shows, Filled}
 use Rattle.protocol.specs.declared.Edition.{Edition}
 use Rattle.protocol.specs.declared.View.{View}
-use Rattle.protocol.specs.declared.Reading.{Reading}
-use Rattle.protocol.specs.declared.Verdict.the-variants.{Accepted, Refused}
 use Rattle.protocol.proofs.Limits.{maxLength-small, checksum-small}
 use Rattle.protocol.proofs.Accepted.{reads}
 use Rattle.message.specs.Append.{sequenceBytes, appended, append}

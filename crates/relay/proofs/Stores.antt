@@ -2,7 +2,7 @@
 -- Assumes nothing.
 use Prim.Native.Nat.{ℕ, _+_, _≤_, _<_}
 use mathlib.Core.Path.{_≡_, refl, sym, ap, ap₂, _∙_}
-use mathlib.Core.List.{List, [], _∷_, _++_, append-assoc, append-nil}
+use mathlib.Core.List.{List, [], _∷_, _++_, append-nil}
 use native.Mathlib.Omega.{arith}
 use native.Mathlib.Nat.{add-zero}
 use lib.ListN.{length, take, drop, set, length-append, length-drop, take-append-drop}
@@ -10,7 +10,7 @@ use lib.Seq.{take-at, drop-append-add, drop-drop, sets-eq}
 use Rattle.wire.specs.Bytes.{put}
 use Rattle.wire.proofs.Parts.{put-fits}
 use Rattle.protocol.specs.Layout.{checksumSize}
-use Rattle.message.specs.Message.{checksum, output, Written}
+use Rattle.message.specs.Message.{checksum, output}
 use Rattle.message.proofs.Message.{length-checksum}
 
 -- what stands there after the bytes p were stored over old

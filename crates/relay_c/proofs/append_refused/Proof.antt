@@ -1,7 +1,6 @@
 -- `relay_c::append_refused` meets its contract: appending's own refusal, or 25.
 -- Assumes nothing.
 use borrow.Author.Needs.{needs}
-use Rattle.message.specs.Append.{append}
 use Rattle.relay_c.specs.Interface.{viewSize, result}
 use Rattle.relay_c.proofs.Results.{own-refusal, no-room}
 use Rattle.relay_c.proofs.append_refused.Statement.{statement}

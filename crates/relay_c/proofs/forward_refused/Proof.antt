@@ -1,11 +1,8 @@
 -- `relay_c::forward_refused` meets its contract: forwarding refuses as reading does, or with 25.
 -- Assumes nothing.
-use mathlib.Core.Path.{_∙_}
-use native.Mathlib.Omega.{arith}
 use borrow.Author.Needs.{needs}
 use Rattle.protocol.specs.Read.{read}
 use Rattle.protocol.proofs.Answered.{answer-refused, answer-accepted}
-use Rattle.message.specs.Forward.{forward}
 use Rattle.relay.proofs.Forwards.{forward-refused}
 use Rattle.relay_c.specs.Interface.{viewSize, result}
 use Rattle.relay_c.proofs.Results.{own-refusal, never-room}

@@ -1,9 +1,6 @@
 -- `relay_c::write_refused` meets its contract: writing's own refusal, or 25.
 -- Assumes nothing.
-use mathlib.Core.Path.{refl}
 use borrow.Author.Needs.{needs}
-use Rattle.message.specs.Write.{write}
-use Rattle.writing.specs.Answers.{Decided}
 use Rattle.relay_c.specs.Interface.{viewSize, result}
 use Rattle.relay_c.proofs.Results.{own-refusal, no-room}
 use Rattle.relay_c.proofs.write_refused.Statement.{statement}

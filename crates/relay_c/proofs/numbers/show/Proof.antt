@@ -1,6 +1,6 @@
 -- `relay_c::numbers::show` meets its contract: eight numbers are stored one after the other, and the table behind them.
 -- Assumes nothing.
-use mathlib.Core.Path.{ap, _∙_}
+use mathlib.Core.Path.{_∙_}
 use native.Mathlib.Omega.{arith}
 use lib.ListN.{length, length-set}
 use borrow.Author.Needs.{needs}
