@@ -6,7 +6,7 @@ use borrow.Fn.Written as written
 use contract.Running.{tablesOf, givenOf}
 use Rattle.crc32c.specs.Crc.{shiftBit, shiftBits}
 use Rattle.crc32c.proofs.Matched.{matched}
-use Rattle.crc32c.proofs.Tabulate.{stepped, rows, rows-rule}
+use Rattle.crc32c.proofs.Tabulate.{powers, rows, rows-rule}
 use Rattle.crc32c.proofs.tables.far.Code as code
 use Rattle.crc32c.proofs.tables.far.Key as key
 use Rattle.crc32c.proofs.tables.far.Kinds as kinds
@@ -19,4 +19,4 @@ far-spec {M} 𝓤 H 𝓜 𝓖 𝓡 =
     let w : World = record { M = M; 𝓤 = 𝓤; H = H; 𝓜 = 𝓜; 𝓖 = 𝓖; 𝓡 = 𝓡 } in
     written.close 0 kinds.ps kinds.r reads.Ghost reads.requires reads.ensures reads.pre-read reads.Pinned reads.Owned reads.post-read
     w code.env key.name code.function (code.unfolded 𝓤 H 𝓜 𝓡) (λ κs a g. tt) (λ κs. reads.owns κs w) (reads.passes w)
-    (λ g. matched (rows 8 (stepped 72 256)) tt reads.Pre reads.Post (λ x p s. rows-rule 8 72 x p) 𝓤 H (𝓖 .A) (givenOf 𝓤 H 𝓜 𝓖) (Over 𝓤 H 𝓜 𝓖 𝓡 code.env))
+    (λ g. matched (rows 8 (powers 72 8 0)) tt reads.Pre reads.Post (λ x p s. rows-rule 8 72 x p) 𝓤 H (𝓖 .A) (givenOf 𝓤 H 𝓜 𝓖) (Over 𝓤 H 𝓜 𝓖 𝓡 code.env))
