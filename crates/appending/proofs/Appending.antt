@@ -31,7 +31,7 @@ use Rattle.message.specs.Append.{sequenceBytes, appended, append}
 use Rattle.message.proofs.Message.{same-size, stated-length, stated-end}
 use Rattle.message.proofs.Forwarded.{required, view-flags, view-length}
 use Rattle.message.proofs.Appended.{appended-word, appended-stated, appended-flags, appended-end, appended-sections, appended-sound}
-use Rattle.opmsg.proofs.Gather.{body-stays, sequences-more}
+use Rattle.sections.proofs.Gather.{body-stays, sequences-more}
 use Rattle.appending.specs.Grown.{allowed, entry, grown}
 use Rattle.appending.proofs.Held.{accepted-held}
 use Rattle.appending.proofs.Section.{sizeOf, bytes-length, runAt, withSection, section-walked, names-checked}

@@ -24,8 +24,8 @@ use Rattle.protocol.proofs.Accepted.{Differ}
 use Rattle.protocol.proofs.Differ.{front-part, front-identifiers}
 use Rattle.message.specs.Append.{sequenceBytes}
 use Rattle.naming.proofs.Texts.{among-append, among-last}
-use Rattle.opmsg.proofs.Gather.{body-stays, sequences-more}
-use Rattle.opmsg.proofs.Turns.{run-turns}
+use Rattle.sections.proofs.Gather.{body-stays, sequences-more}
+use Rattle.sections.proofs.Turns.{run-turns}
 use Rattle.appending.specs.Grown.{entry}
 use Rattle.appending.proofs.Held.{Held}
 

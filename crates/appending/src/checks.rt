@@ -1,9 +1,9 @@
 // The checks of an append between reading the message and reading the new one.
-use opmsg::header::LENGTH;
-use opmsg::sections::SEQUENCES;
+use header::LENGTH;
 use protocol::Edition;
 use protocol::Verdict;
 use protocol::refused;
+use sections::SEQUENCES;
 use wire::until_zero;
 ghost use mathlib.Core.Path.{_≡_};
 ghost use Prim.Native.Nat.{_+_, _^_, _<_};

@@ -3,15 +3,15 @@ mod checks;
 mod storing;
 
 use checks::checks;
+use header::checksum_size;
 use naming::names::taken;
 use opmsg::answer::refusal;
-use opmsg::header::checksum_size;
-use opmsg::sections::Run;
 use protocol::Edition;
 use protocol::Reading;
 use protocol::Sequence;
 use protocol::Verdict;
 use protocol::View;
+use sections::Run;
 ghost use mathlib.Core.Path.{_≡_};
 ghost use mathlib.Core.List.{List, _++_};
 ghost use Prim.Native.Nat.{_+_, _-_, _^_, _<_, _≤_};
@@ -106,7 +106,7 @@ fn examine(e: Edition, s: &[u8], v: View, identifier: &[u8], documents: &[u8], r
         return Found::Refused { number, place };
     }
     let at = end + (identifier.len() + 6);
-    match opmsg::sections::documents(documents, at as u32, v.elements) {
+    match sections::documents(documents, at as u32, v.elements) {
         Run::Past {
             documents: number,
             elements,

@@ -1,5 +1,5 @@
 // The bytes of a message with one section more, stored from left to right.
-use opmsg::header::checksum_size;
+use header::checksum_size;
 use relay::storing::seal;
 use wire::put;
 use wire::put_word;

@@ -1,7 +1,7 @@
 // A stream of messages back to back, of which a buffer holds a part.
 use crate::Step;
 use crate::Summary;
-use opmsg::header::LENGTH;
+use header::LENGTH;
 use protocol::Edition;
 use protocol::Verdict;
 use wire::under;

@@ -1,5 +1,1 @@
-pub mod Masks
-pub mod Fill
-pub mod Turns
-pub mod Gather
 pub mod Assembled

@@ -1,11 +1,11 @@
 // Answers by value.
-use crate::flags::kept;
-use crate::sections::Content;
-use crate::sections::no_sequence;
+use header::flags::kept;
 use protocol::Edition;
 use protocol::Reading;
 use protocol::Verdict;
 use protocol::View;
+use sections::Content;
+use sections::no_sequence;
 use wire::signed;
 use wire::word;
 ghost use mathlib.Core.Path.{_≡_};

@@ -1,8 +1,8 @@
 // The calls of the library: forwarding, writing and appending.
 pub mod storing;
 
+use header::checksum_size;
 use opmsg::answer::refusal;
-use opmsg::header::checksum_size;
 use opmsg::read;
 use protocol::Edition;
 use protocol::Reading;

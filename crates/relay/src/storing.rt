@@ -1,5 +1,5 @@
 // The bytes of a message, stored from left to right.
-use opmsg::flags::checksummed;
+use header::flags::checksummed;
 use wire::put_word;
 ghost use mathlib.Core.Path.{_≡_};
 ghost use lib.ListN.{take};

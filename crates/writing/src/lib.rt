@@ -1,17 +1,17 @@
 // Writing a message from its ids, flag word and body. The body is read where it lies, and nothing is stored before the answer is known.
 use bson::Walk;
+use header::LENGTH;
+use header::checksum_size;
+use header::flags::all_known;
 use naming::names::body_names;
 use opmsg::answer::refusal;
-use opmsg::flags::all_known;
-use opmsg::header::LENGTH;
-use opmsg::header::checksum_size;
-use opmsg::sections::no_sequence;
 use protocol::Edition;
 use protocol::Reading;
 use protocol::Verdict;
 use protocol::View;
 use protocol::refused;
 use relay::storing::seal;
+use sections::no_sequence;
 use wire::bits32;
 use wire::put;
 use wire::put_word;

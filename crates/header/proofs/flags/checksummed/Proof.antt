@@ -1,0 +1,16 @@
+-- `header::flags::checksummed` meets its contract.
+-- Assumes nothing.
+use mathlib.Core.Path.{refl}
+use Rattle.protocol.specs.Flags.{checksummed}
+use Rattle.header.proofs.flags.checksummed.Statement.{statement}
+use Rattle.header.proofs.flags.checksummed.Tie as tie
+
+returns : tie.Need-returns
+unfolding checksummed
+returns c = refl
+
+pub checksummed-spec : {M : Type 1} → statement M
+checksummed-spec =
+    tie.close
+    (tie.spec
+    returns)

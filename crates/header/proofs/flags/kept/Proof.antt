@@ -1,0 +1,17 @@
+-- `header::flags::kept` meets its contract.
+-- Assumes nothing.
+use native.Mathlib.Nat.{mod-eq-of-lt}
+use Rattle.protocol.specs.Flags.{kept}
+use Rattle.header.proofs.Masks.{common-and}
+use Rattle.header.proofs.flags.kept.Statement.{statement}
+use Rattle.header.proofs.flags.kept.Tie as tie
+
+returns : tie.Need-returns
+unfolding kept
+returns c = rw (common-and 32 (c .args .flags) (c .args .bits), mod-eq-of-lt (c .fits .flags .fits))
+
+pub kept-spec : {M : Type 1} → statement M
+kept-spec =
+    tie.close
+    (tie.spec
+    returns)

@@ -1,0 +1,16 @@
+-- `header::flags::required_known` meets its contract.
+-- Assumes nothing.
+use Rattle.protocol.specs.Flags.{allKnown}
+use Rattle.header.proofs.Masks.{common-and}
+use Rattle.header.proofs.flags.required_known.Statement.{statement}
+use Rattle.header.proofs.flags.required_known.Tie as tie
+
+returns : tie.Need-returns
+unfolding allKnown
+returns c = rw (common-and 16 (c .args .flags) (c .args .bits))
+
+pub required-known-spec : {M : Type 1} → statement M
+required-known-spec =
+    tie.close
+    (tie.spec
+    returns)

@@ -1,0 +1,3 @@
+pub mod Fill
+pub mod Turns
+pub mod Gather

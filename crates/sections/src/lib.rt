@@ -1,0 +1,263 @@
+// Checks 10 to 21: the sections of a message, from left to right. A slice starts at the place `at` of the message, and ends below 2 ^ 31.
+use bson::Walk;
+use protocol::Edition;
+use protocol::Sequence;
+use protocol::Verdict;
+use wire::under;
+use wire::until_zero;
+use wire::word;
+ghost use mathlib.Core.Path.{_≡_};
+ghost use Prim.Native.Nat.{ℕ, _+_, _^_, _<_, _≤_};
+ghost use lib.ListN.{length};
+ghost use Rattle.wire.specs.Walk.{walk};
+ghost use Rattle.protocol.specs.Sections.{Parts, nextDocument, bodySection, sequenceRun, sequenceSection, sectionAt};
+ghost use Rattle.protocol.specs.View.{noSequence};
+ghost use Rattle.sections.specs.Answers.{ran, partOf, Reaches, Carries, Listed};
+
+// The most sequences of a message.
+pub const SEQUENCES: usize = 16;
+
+// Documents back to back: their number and the elements counted by now, or a refusal.
+pub enum Run {
+    Past { documents: u32, elements: u32 },
+    Refused { number: u32, place: usize },
+}
+
+// What a section adds to those before it: a body of `size` bytes behind the kind byte, or a sequence whose section has `size` bytes;
+// and the elements counted by now. Or a refusal.
+enum Part {
+    Body {
+        size: usize,
+        elements: u32,
+    },
+    Sequenced {
+        entry: Sequence,
+        size: usize,
+        elements: u32,
+    },
+    Refused {
+        number: u32,
+        place: usize,
+    },
+}
+
+// All sections of a message. Where they are refused, the numbers are zero.
+pub struct Content {
+    pub verdict: Verdict,
+    pub body: usize,
+    pub body_length: usize,
+    pub count: usize,
+    pub sequences: [Sequence; 16],
+    pub elements: u32,
+}
+
+fn refused(number: u32, place: usize) -> Part
+    ensures { λ r. ⌜ r ≡ Part.Refused number place ⌝ }
+{
+    Part::Refused { number, place }
+}
+
+// Documents that fill s.
+pub fn documents(s: &[u8], at: u32, count: u32) -> Run
+    requires { ⌜ at + length (now s) < 2 ^ 31 ⌝ }
+    ensures { λ r. ⌜ ((turns : ℕ) → length (now (s .entry)) ≤ turns → ran r ≡ walk nextDocument turns at (now (s .entry)) (record { documents = 0; elements = count })) ⌝ }
+{
+    let mut i: u32 = 0;
+    let mut number: u32 = 0;
+    let mut elements = count;
+    let end = s.len() as u32;
+    while i < end {
+        let from = i as usize;
+        let w = bson::document(&s[from..], at + i, elements);
+        match w {
+            Walk::Past { size, count: more } => {
+                i += size as u32;
+                number = 1 + number;
+                elements = more;
+            }
+            Walk::Refused { number: n, place } => {
+                return Run::Refused { number: n, place };
+            }
+        }
+    }
+    Run::Past {
+        documents: number,
+        elements,
+    }
+}
+
+// Kind 0; xs begins with the kind byte. `start` is that of a body passed before, or 0.
+fn body_section(xs: &[u8], at: usize, start: usize, elements: u32) -> Part
+    requires { ⌜ (0 < length (now xs)) × (at + length (now xs) < 2 ^ 31) ⌝ }
+    ensures is { λ r. ⌜ ((p : Parts) (number : ℕ) → Carries p start number elements → partOf at p r ≡ bodySection at (now (xs .entry)) p) ⌝ }
+    ensures inside { λ r. ⌜ Reaches (now (xs .entry)) r ⌝ }
+{
+    if 0 < start {
+        return refused(11, at);
+    }
+    match bson::document(&xs[1..], (at + 1) as u32, elements) {
+        Walk::Past { size, count } => Part::Body {
+            size,
+            elements: count,
+        },
+        Walk::Refused { number, place } => Part::Refused { number, place },
+    }
+}
+
+// The documents of a sequence whose identifier has n bytes; the section's size counts from behind the kind byte.
+fn sequence_documents(xs: &[u8], at: usize, n: usize, size: usize, elements: u32) -> Part
+    requires { ⌜ (n + 5 ≤ size) × (1 + size ≤ length (now xs)) × (at + length (now xs) < 2 ^ 31) ⌝ }
+    ensures is { λ r. ⌜ ((p : Parts) → p .elements ≡ elements → partOf at p r ≡ sequenceRun n size at (now (xs .entry)) p) ⌝ }
+    ensures inside { λ r. ⌜ Reaches (now (xs .entry)) r ⌝ }
+{
+    let start = n + 6;
+    let end = 1 + size;
+    match documents(&xs[start..end], (at + start) as u32, elements) {
+        Run::Past {
+            documents,
+            elements: counted,
+        } => {
+            let entry = Sequence {
+                name: (at + 5) as u32,
+                name_length: n as u32,
+                start: (at + start) as u32,
+                end: (at + end) as u32,
+                documents,
+            };
+            Part::Sequenced {
+                entry,
+                size: end,
+                elements: counted,
+            }
+        }
+        Run::Refused { number, place } => Part::Refused { number, place },
+    }
+}
+
+// Kind 1; xs begins with the kind byte. `count` sequences were passed before.
+fn sequence_section(xs: &[u8], at: usize, count: usize, elements: u32) -> Part
+    requires { ⌜ (0 < length (now xs)) × (at + length (now xs) < 2 ^ 31) ⌝ }
+    ensures is { λ r. ⌜ ((p : Parts) (start : ℕ) → Carries p start count elements → partOf at p r ≡ sequenceSection at (now (xs .entry)) p) ⌝ }
+    ensures inside { λ r. ⌜ Reaches (now (xs .entry)) r ⌝ }
+{
+    if SEQUENCES <= count {
+        return refused(14, at);
+    }
+    if xs.len() < 5 {
+        return refused(12, at + 1);
+    }
+    let w = word(&xs[1..]);
+    if under(5, w) {
+        return refused(12, at + 1);
+    }
+    let size = w as usize;
+    if xs.len() < 1 + size {
+        return refused(12, at + 1);
+    }
+    let end = 1 + size;
+    let n = until_zero(&xs[5..end]);
+    if n == 0 {
+        return refused(13, at + 5);
+    }
+    if size - 4 <= n {
+        return refused(13, at + 5);
+    }
+    sequence_documents(xs, at, n, size, elements)
+}
+
+// The section at the start of xs.
+fn section(e: Edition, xs: &[u8], at: usize, start: usize, count: usize, elements: u32) -> Part
+    requires { ⌜ (0 < length (now xs)) × (at + length (now xs) < 2 ^ 31) ⌝ }
+    ensures is { λ r. ⌜ ((p : Parts) → Carries p start count elements → partOf at p r ≡ sectionAt e at (now (xs .entry)) p) ⌝ }
+    ensures inside { λ r. ⌜ Reaches (now (xs .entry)) r ⌝ }
+{
+    let kind = xs[0];
+    if kind == 0 {
+        return body_section(xs, at, start, elements);
+    }
+    if kind != 1 {
+        return refused(10, at);
+    }
+    if !e.sequences {
+        return refused(10, at);
+    }
+    sequence_section(xs, at, count, elements)
+}
+
+// No sections, with a verdict.
+fn nothing(verdict: Verdict) -> Content
+    ensures { λ r. ⌜ r .verdict ≡ verdict ⌝ }
+{
+    let none = no_sequence();
+    let sequences = [none; 16];
+    Content {
+        verdict,
+        body: 0,
+        body_length: 0,
+        count: 0,
+        sequences,
+        elements: 0,
+    }
+}
+
+// An entry of the table past the last sequence.
+pub fn no_sequence() -> Sequence
+    ensures { λ r. ⌜ r ≡ noSequence ⌝ }
+{
+    Sequence {
+        name: 0,
+        name_length: 0,
+        start: 0,
+        end: 0,
+        documents: 0,
+    }
+}
+
+// All sections of a message; xs are their bytes, which start at 20.
+pub fn sections(e: Edition, xs: &[u8]) -> Content
+    requires { ⌜ length (now xs) < 2 ^ 30 ⌝ }
+    ensures { λ r. ⌜ Listed e (now (xs .entry)) r ⌝ }
+{
+    let mut i = 0;
+    let mut body = 0;
+    let mut body_length = 0;
+    let mut count = 0;
+    let none = no_sequence();
+    let mut sequences = [none; 16];
+    let mut elements = 0;
+    while i < xs.len() {
+        let at = 20 + i;
+        match section(e, &xs[i..], at, body, count, elements) {
+            Part::Body {
+                size,
+                elements: counted,
+            } => {
+                body = at + 1;
+                body_length = size;
+                elements = counted;
+                i += 1 + size;
+            }
+            Part::Sequenced {
+                entry,
+                size,
+                elements: counted,
+            } => {
+                sequences[count] = entry;
+                count += 1;
+                elements = counted;
+                i += size;
+            }
+            Part::Refused { number, place } => {
+                return nothing(Verdict::Refused { number, place });
+            }
+        }
+    }
+    Content {
+        verdict: Verdict::Accepted,
+        body,
+        body_length,
+        count,
+        sequences,
+        elements,
+    }
+}
