@@ -8,7 +8,7 @@ use lib.Dec.{ltb, leb, eqb}
 use Rattle.wire.specs.Outcome.{Outcome, ok, refused, refuse, _>>=_}
 use Rattle.wire.specs.Bytes.{word, under, untilZero}
 use Rattle.wire.specs.Walk.{Step, step, Reader, walk}
-use Rattle.bson.specs.Value.{Value, plain, embedded, scoped, table, ruleIn}
+use Rattle.values.specs.Value.{Value, plain, embedded, scoped, table, ruleIn}
 use Rattle.bson.specs.declared.Walk.{Walk}
 use Rattle.bson.specs.declared.Walk.the-variants.{Past, Refused}
 

@@ -1,10 +1,10 @@
 // Documents and elements at all levels.
 use crate::ELEMENTS;
 use crate::Walk;
-use crate::values::Found;
-use crate::values::Shape;
-use crate::values::kind_of;
-use crate::values::value_of;
+use values::Found;
+use values::Shape;
+use values::kind_of;
+use values::value_of;
 use wire::under;
 use wire::until_zero;
 use wire::word;

@@ -1,6 +1,5 @@
 // BSON, checked for structure at all levels.
 mod documents;
-mod values;
 
 use documents::Outline;
 use documents::head;

@@ -12,7 +12,7 @@ use Rattle.wire.specs.Walk.{step, Reader, walk}
 use Rattle.wire.proofs.Outcome.{bound, go-on, check-ltb, check-leb, check-eqb, check-under}
 use Rattle.wire.proofs.Bytes.{word-le32}
 use Rattle.wire.proofs.Walk.{walk-done, walk-step}
-use Rattle.bson.specs.Value.{sized, boolean, string, binary, regex, pointer, codeWithScope, bytes, embedded, scoped, Rule, table, ruleIn}
+use Rattle.values.specs.Value.{sized, boolean, string, binary, regex, pointer, codeWithScope, bytes, embedded, scoped, Rule, table, ruleIn}
 use Rattle.bson.specs.Document.{inside, head, element, documentAt, maxElements}
 use Rattle.grammar.specs.Grammar.{_∈_, String, Plain, Document, Elements, Element, Value}
 use Rattle.bson.proofs.Frame.{frame-is}

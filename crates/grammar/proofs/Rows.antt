@@ -13,7 +13,7 @@ use Rattle.wire.specs.Outcome.{Outcome, ok, _>>=_}
 use Rattle.wire.specs.Bytes.{Bytes, word, le32, untilZero, oneOf}
 use Rattle.wire.proofs.Outcome.{not-ok, ok-same, bound, passed, check-ltb, check-leb, check-eqb, check-under}
 use Rattle.wire.proofs.Bytes.{bytes-drop, word-le32, le32-word, under-false}
-use Rattle.bson.specs.Value.{sized, boolean, cstring, string, binary, regex, pointer, Rule, Row, ruleIn}
+use Rattle.values.specs.Value.{sized, boolean, cstring, string, binary, regex, pointer, Rule, Row, ruleIn}
 use Rattle.grammar.specs.Grammar.{_∈_, ZeroEnded, String, Plain}
 use Rattle.grammar.proofs.Texts.{parted, joined, zero-ended, until-ended}
 

@@ -10,8 +10,8 @@ use borrow.Author.Tests.{ltb-false, leb-false, eqb-true, not-false}
 use Rattle.wire.specs.Outcome.{Outcome, ok}
 use Rattle.wire.specs.Bytes.{Bytes, word, le32, untilZero}
 use Rattle.wire.specs.Walk.{Step, step, Reader, walk}
-use Rattle.bson.specs.Value.{sized, boolean, string, binary, regex, pointer, codeWithScope, bytes, embedded, Rule, table, ruleIn}
-use Rattle.bson.specs.Value as Walked
+use Rattle.values.specs.Value.{sized, boolean, string, binary, regex, pointer, codeWithScope, bytes, embedded, Rule, table, ruleIn}
+use Rattle.values.specs.Value as Walked
 use Rattle.bson.specs.Document.{inside, head, element, documentAt, maxElements}
 use Rattle.grammar.specs.Grammar.{_∈_, String, Plain, Document, Elements, Element, Value}
 use Rattle.grammar.specs.Reading.{Read}

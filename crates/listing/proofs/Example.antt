@@ -4,7 +4,7 @@ use mathlib.Core.Path.{refl}
 use Rattle.wire.specs.Outcome.{refuse, _>>=_}
 use Rattle.wire.specs.Bytes.{word, wordAt, under, signed, untilZero, oneOf}
 use Rattle.wire.specs.Walk.{walk}
-use Rattle.bson.specs.Value.{sized, table, ruleIn}
+use Rattle.values.specs.Value.{sized, table, ruleIn}
 use Rattle.bson.specs.Document.{maxLevels, maxElements, frame, head, inside, element, documentAt, sizeOf, elementSize}
 use Rattle.protocol.specs.Flags.{common, kept, allKnown, checksummed, knows}
 use Rattle.protocol.specs.Layout.{maxLength, checksumSize, sectionsEnd, sectionBytes, checksumDiffers}

@@ -10,7 +10,7 @@ use borrow.Author.Tests.{eq-eqb, ne-eqb}
 use Rattle.wire.specs.Outcome.{refuse, _>>=_}
 use Rattle.wire.specs.Bytes.{oneOf}
 use Rattle.wire.proofs.Parts.{rest-part}
-use Rattle.bson.specs.Value.{table, ruleIn}
+use Rattle.values.specs.Value.{table, ruleIn}
 use Rattle.bson.specs.Document.{elementSize, sizeOf, inside, head, element, maxElements}
 use Rattle.bson.proofs.element_size.Statement.{statement}
 use Rattle.bson.proofs.element_size.Tie as tie

@@ -1,12 +1,12 @@
--- `bson::values::pointer` meets its contract: each way out has what its two parts are.
+-- `values::pointer` meets its contract: each way out has what its two parts are.
 -- Assumes nothing.
 use borrow.Author.Needs.{needs}
 use native.Mathlib.Omega.{arith}
 use Rattle.wire.specs.Outcome.{refuse, _>>=_}
-use Rattle.bson.specs.Value.{pointer}
+use Rattle.values.specs.Value.{pointer}
 use Rattle.wire.proofs.Parts.{rest-part}
-use Rattle.bson.proofs.values.pointer.Statement.{statement}
-use Rattle.bson.proofs.values.pointer.Tie as tie
+use Rattle.values.proofs.pointer.Statement.{statement}
+use Rattle.values.proofs.pointer.Tie as tie
 
 string-requires : tie.Need-string-requires
 string-requires c κs = search needs

@@ -1,11 +1,11 @@
--- `bson::values::binary` meets its contract: each way out has its tests, on the number that `word` answers.
+-- `values::binary` meets its contract: each way out has its tests, on the number that `word` answers.
 -- Assumes nothing.
 use borrow.Author.Needs.{needs}
 use borrow.Author.Tests.{lt-ltb, le-ltb}
 use Rattle.wire.specs.Outcome.{refuse, _>>=_}
-use Rattle.bson.specs.Value.{binary}
-use Rattle.bson.proofs.values.binary.Statement.{statement}
-use Rattle.bson.proofs.values.binary.Tie as tie
+use Rattle.values.specs.Value.{binary}
+use Rattle.values.proofs.binary.Statement.{statement}
+use Rattle.values.proofs.binary.Tie as tie
 
 returns : tie.Need-returns
 unfolding binary _>>=_ refuse

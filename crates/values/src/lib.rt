@@ -5,17 +5,17 @@ use wire::word;
 ghost use mathlib.Core.Path.{_≡_};
 ghost use Prim.Native.Nat.{ℕ};
 ghost use lib.ListN.{length};
-ghost use Rattle.bson.specs.Value.{sized, boolean, cstring, string, binary, regex, pointer, codeWithScope, bytes, table, ruleIn};
-ghost use Rattle.bson.specs.Answers.{extent, Within, shape, Inside, ruleOf, listed};
+ghost use Rattle.values.specs.Value.{sized, boolean, cstring, string, binary, regex, pointer, codeWithScope, bytes, table, ruleIn};
+ghost use Rattle.values.specs.Answers.{extent, Within, shape, Inside, ruleOf, listed};
 
 // How many bytes something takes; or it breaks its rule.
-pub(crate) enum Extent {
+pub enum Extent {
     Takes(usize),
     Broken,
 }
 
 // A value: bytes alone; a document; bytes of which those from `start` on are a document; or it breaks its rule.
-pub(crate) enum Shape {
+pub enum Shape {
     Plain(usize),
     Embedded,
     Scoped { start: usize, size: usize },
@@ -23,7 +23,7 @@ pub(crate) enum Shape {
 }
 
 // The rows of the table.
-pub(crate) enum Kind {
+pub enum Kind {
     Bytes(usize),
     Boolean,
     String,
@@ -35,13 +35,13 @@ pub(crate) enum Kind {
 }
 
 // The row of a type, if it has one.
-pub(crate) enum Found {
+pub enum Found {
     Listed(Kind),
     Unlisted,
 }
 
 // The row in which the type t stands.
-pub(crate) fn kind_of(t: u8) -> Found
+pub fn kind_of(t: u8) -> Found
     ensures { λ r. ⌜ ((at : ℕ) → listed at r ≡ ruleIn table at t) ⌝ }
 {
     match t {
@@ -204,7 +204,7 @@ fn plain(e: Extent) -> Shape
 }
 
 // A value of some kind, where s is what follows its name, up to the document's last byte.
-pub(crate) fn value_of(k: Kind, s: &[u8]) -> Shape
+pub fn value_of(k: Kind, s: &[u8]) -> Shape
     ensures is { λ r. ⌜ ((v : ℕ) → shape v r ≡ ruleOf k v (now (s .entry))) ⌝ }
     ensures inside { λ r. ⌜ Inside (length (now (s .entry))) r ⌝ }
 {

@@ -1,10 +1,10 @@
--- `bson::values::sized` meets its contract: each way out has its test.
+-- `values::sized` meets its contract: each way out has its test.
 -- Assumes nothing.
 use borrow.Author.Tests.{lt-ltb, le-ltb}
 use Rattle.wire.specs.Outcome.{refuse, _>>=_}
-use Rattle.bson.specs.Value.{sized}
-use Rattle.bson.proofs.values.sized.Statement.{statement}
-use Rattle.bson.proofs.values.sized.Tie as tie
+use Rattle.values.specs.Value.{sized}
+use Rattle.values.proofs.sized.Statement.{statement}
+use Rattle.values.proofs.sized.Tie as tie
 
 returns : tie.Need-returns
 unfolding sized _>>=_ refuse

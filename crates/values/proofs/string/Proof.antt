@@ -1,11 +1,11 @@
--- `bson::values::string` meets its contract: each way out has its tests, on the number that `word` answers.
+-- `values::string` meets its contract: each way out has its tests, on the number that `word` answers.
 -- Assumes nothing.
 use borrow.Author.Needs.{needs}
 use borrow.Author.Tests.{lt-ltb, le-ltb, eq-eqb, ne-eqb}
 use Rattle.wire.specs.Outcome.{refuse, _>>=_}
-use Rattle.bson.specs.Value.{string}
-use Rattle.bson.proofs.values.string.Statement.{statement}
-use Rattle.bson.proofs.values.string.Tie as tie
+use Rattle.values.specs.Value.{string}
+use Rattle.values.proofs.string.Statement.{statement}
+use Rattle.values.proofs.string.Tie as tie
 
 returns : tie.Need-returns
 unfolding string _>>=_ refuse

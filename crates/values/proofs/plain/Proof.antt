@@ -1,9 +1,9 @@
--- `bson::values::plain` meets its contract: each arm is told which extent it is.
+-- `values::plain` meets its contract: each arm is told which extent it is.
 -- Assumes nothing.
 use borrow.Author.Needs.{needs}
 use Rattle.wire.specs.Outcome.{_>>=_}
-use Rattle.bson.proofs.values.plain.Statement.{statement}
-use Rattle.bson.proofs.values.plain.Tie as tie
+use Rattle.values.proofs.plain.Statement.{statement}
+use Rattle.values.proofs.plain.Tie as tie
 
 enum-known-e : tie.Need-enum-known-e
 enum-known-e c = search needs

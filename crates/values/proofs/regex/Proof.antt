@@ -1,12 +1,12 @@
--- `bson::values::regex` meets its contract: each way out has what its two parts are.
+-- `values::regex` meets its contract: each way out has what its two parts are.
 -- Assumes nothing.
 use borrow.Author.Needs.{needs}
 use native.Mathlib.Omega.{arith}
 use Rattle.wire.specs.Outcome.{refuse, _>>=_}
-use Rattle.bson.specs.Value.{regex}
+use Rattle.values.specs.Value.{regex}
 use Rattle.wire.proofs.Parts.{rest-part}
-use Rattle.bson.proofs.values.regex.Statement.{statement}
-use Rattle.bson.proofs.values.regex.Tie as tie
+use Rattle.values.proofs.regex.Statement.{statement}
+use Rattle.values.proofs.regex.Tie as tie
 
 cstring-requires : tie.Need-cstring-requires
 cstring-requires c κs = search needs

@@ -1,11 +1,11 @@
--- `bson::values::boolean` meets its contract: each way out has its tests.
+-- `values::boolean` meets its contract: each way out has its tests.
 -- Assumes nothing.
 use borrow.Author.Needs.{needs}
 use borrow.Author.Tests.{lt-ltb, le-ltb}
 use Rattle.wire.specs.Outcome.{refuse, _>>=_}
-use Rattle.bson.specs.Value.{boolean}
-use Rattle.bson.proofs.values.boolean.Statement.{statement}
-use Rattle.bson.proofs.values.boolean.Tie as tie
+use Rattle.values.specs.Value.{boolean}
+use Rattle.values.proofs.boolean.Statement.{statement}
+use Rattle.values.proofs.boolean.Tie as tie
 
 returns : tie.Need-returns
 unfolding boolean _>>=_ refuse

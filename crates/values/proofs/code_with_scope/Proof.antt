@@ -1,14 +1,14 @@
--- `bson::values::code_with_scope` meets its contract: each way out has its tests, and what the string is.
+-- `values::code_with_scope` meets its contract: each way out has its tests, and what the string is.
 -- Assumes nothing.
 use borrow.Author.Needs.{needs}
 use native.Mathlib.Omega.{arith}
 use mathlib.Core.Path.{sym, _∙_}
 use borrow.Author.Tests.{lt-ltb, le-ltb}
 use Rattle.wire.specs.Outcome.{refuse, _>>=_}
-use Rattle.bson.specs.Value.{codeWithScope}
+use Rattle.values.specs.Value.{codeWithScope}
 use Rattle.wire.proofs.Bytes.{under-false}
-use Rattle.bson.proofs.values.code_with_scope.Statement.{statement}
-use Rattle.bson.proofs.values.code_with_scope.Tie as tie
+use Rattle.values.proofs.code_with_scope.Statement.{statement}
+use Rattle.values.proofs.code_with_scope.Tie as tie
 
 returns : tie.Need-returns
 unfolding codeWithScope _>>=_ refuse

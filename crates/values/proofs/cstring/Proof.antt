@@ -1,12 +1,12 @@
--- `bson::values::cstring` meets its contract: each way out has its test, on the number that `until_zero` answers.
+-- `values::cstring` meets its contract: each way out has its test, on the number that `until_zero` answers.
 -- Assumes nothing.
 use borrow.Author.Needs.{needs}
 use native.Mathlib.Omega.{arith}
 use borrow.Author.Tests.{le-leb, lt-leb}
 use Rattle.wire.specs.Outcome.{refuse, _>>=_}
-use Rattle.bson.specs.Value.{cstring}
-use Rattle.bson.proofs.values.cstring.Statement.{statement}
-use Rattle.bson.proofs.values.cstring.Tie as tie
+use Rattle.values.specs.Value.{cstring}
+use Rattle.values.proofs.cstring.Statement.{statement}
+use Rattle.values.proofs.cstring.Tie as tie
 
 until-zero-requires : tie.Need-until-zero-requires
 until-zero-requires c κs = search needs

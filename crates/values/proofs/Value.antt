@@ -11,7 +11,7 @@ use Rattle.wire.specs.Outcome.{Outcome, ok, _>>=_}
 use Rattle.wire.specs.Bytes.{word, untilZero, oneOf}
 use Rattle.wire.proofs.Outcome.{not-ok, ok-same, went, passed, pass, go-on}
 use Rattle.wire.proofs.Bytes.{under-false}
-use Rattle.bson.specs.Value.{Value, plain, embedded, scoped, sized, boolean, cstring, string, binary, regex, pointer, codeWithScope, bytes, Rule, Row, table, ruleIn}
+use Rattle.values.specs.Value.{Value, plain, embedded, scoped, sized, boolean, cstring, string, binary, regex, pointer, codeWithScope, bytes, Rule, Row, table, ruleIn}
 
 -- a number of bytes that fits, and is the same at any place
 abbrev Fits : (ℕ → List ℕ → Outcome ℕ) → Type 0
