@@ -12,8 +12,8 @@ use Rattle.protocol.specs.Sections.{maxSequences, bodyStart, bodySize, sequence
 use Rattle.protocol.specs.Names.{sameText, among, distinct, elementNames, part, bodyNames, identifier, identifiers, texts}
 use Rattle.protocol.specs.View.{padded, viewOf}
 use Rattle.protocol.specs.Read.{header, flagged, parts, distinctNames, content, read}
-use Rattle.listing.specs.Decimal.{digits, decimal, signedDecimal}
-use Rattle.listing.specs.Lines.{line, firstLine, messageLine, badLine, endLine}
+use Rattle.lines.specs.Decimal.{digits, decimal, signedDecimal}
+use Rattle.lines.specs.Lines.{line, firstLine, messageLine, badLine, endLine}
 use Rattle.listing.specs.Next.{stepOf, next}
 use Rattle.listing.specs.Listing.{lines, listing, Example}
 

@@ -1,5 +1,3 @@
-pub mod Decimal
-pub mod Lines
 pub mod Next
-pub mod Written
+pub mod Front
 pub mod Listing

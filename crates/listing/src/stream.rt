@@ -1,7 +1,7 @@
 // A stream of messages back to back, of which a buffer holds a part.
 use crate::Step;
-use crate::Summary;
 use header::LENGTH;
+use lines::Summary;
 use protocol::Edition;
 use protocol::Verdict;
 use wire::under;
@@ -10,7 +10,7 @@ ghost use mathlib.Core.Path.{_≡_};
 ghost use lib.ListN.{length};
 ghost use Rattle.protocol.specs.Read.{read};
 ghost use Rattle.listing.specs.Next.{house, short, stepOf, next, Within};
-ghost use Rattle.listing.specs.Written.{toFront};
+ghost use Rattle.listing.specs.Front.{toFront};
 
 // The bytes at hand are short of a header, or of the message whose length it says.
 fn short(s: &[u8]) -> bool

@@ -1,8 +1,8 @@
 // Lists the messages that standard input has back to back, as document 01, "The listing", says.
 use libc::STDIN_FILENO;
 use libc::STDOUT_FILENO;
+use lines::Summary;
 use listing::Step;
-use listing::Summary;
 ghost use mathlib.Core.Path.{_≡_};
 ghost use Prim.Native.Nat.{_+_, _-_, _<_, _≤_};
 ghost use lib.ListN.{length};
@@ -20,25 +20,25 @@ struct Run {
 
 fn print_first() {
     let mut line = [0u8; 256];
-    let n = listing::first_line(&mut line);
+    let n = lines::first_line(&mut line);
     io::write_all(STDOUT_FILENO, &line[..n]);
 }
 
 fn print_message(offset: u64, m: Summary) {
     let mut line = [0u8; 256];
-    let n = listing::message_line(&mut line, offset, m);
+    let n = lines::message_line(&mut line, offset, m);
     io::write_all(STDOUT_FILENO, &line[..n]);
 }
 
 fn print_bad(offset: u64, number: u32, place: usize) {
     let mut line = [0u8; 256];
-    let n = listing::bad_line(&mut line, offset, number, place);
+    let n = lines::bad_line(&mut line, offset, number, place);
     io::write_all(STDOUT_FILENO, &line[..n]);
 }
 
 fn print_end(messages: u64) {
     let mut line = [0u8; 256];
-    let n = listing::end_line(&mut line, messages);
+    let n = lines::end_line(&mut line, messages);
     io::write_all(STDOUT_FILENO, &line[..n]);
 }
 

@@ -6,7 +6,7 @@ use native.Mathlib.Omega.{arith}
 use lib.ListN.{length}
 use borrow.Author.Needs.{needs}
 use borrow.Author.Tests.{le-leb, lt-leb}
-use Rattle.listing.specs.Written.{toFront}
+use Rattle.listing.specs.Front.{toFront}
 use Rattle.listing.proofs.Front.{moved, moved-length, moved-more}
 use Rattle.listing.proofs.stream.to_front.Statement.{statement}
 use Rattle.listing.proofs.stream.to_front.Tie as tie

@@ -1,15 +1,15 @@
--- `listing::message_line` meets its contract: field by field.
+-- `lines::message_line` meets its contract: field by field.
 -- Assumes nothing.
 use mathlib.Core.List.{[], _∷_}
 use native.Mathlib.Omega.{arith}
 use mir.Syntax.{w32}
 use mir.Facts.{toZ-ofZ}
 use borrow.Author.Needs.{needs}
-use Rattle.listing.specs.Lines.{messageLine}
-use Rattle.listing.proofs.Texts.{begun, reworded, counts}
-use Rattle.listing.proofs.Lines.{eight-fields}
-use Rattle.listing.proofs.message_line.Statement.{statement}
-use Rattle.listing.proofs.message_line.Tie as tie
+use Rattle.lines.specs.Lines.{messageLine}
+use Rattle.lines.proofs.Texts.{begun, reworded, counts}
+use Rattle.lines.proofs.Lines.{eight-fields}
+use Rattle.lines.proofs.message_line.Statement.{statement}
+use Rattle.lines.proofs.message_line.Tie as tie
 
 number-requires-5 : tie.Need-number-requires-5
 number-requires-5 c κs =

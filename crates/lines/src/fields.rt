@@ -1,8 +1,8 @@
 // The fields of a line: a number in decimal digits, and the byte behind it.
 ghost use mathlib.Core.List.{List, [], _∷_, _++_};
 ghost use Prim.Native.Nat.{ℕ, _+_, _≤_};
-ghost use Rattle.listing.specs.Decimal.{decimal, signedDecimal};
-ghost use Rattle.listing.specs.Written.{Written};
+ghost use Rattle.lines.specs.Decimal.{decimal, signedDecimal};
+ghost use Rattle.lines.specs.Written.{Written};
 
 // Writes n behind the text that takes `at` bytes, and a byte behind it; answers where that ends.
 pub(crate) fn number(out: &mut [u8; 256], at: usize, n: u64, last: u8) -> usize

@@ -1,13 +1,13 @@
--- `listing::first_line` meets its contract.
+-- `lines::first_line` meets its contract.
 -- Assumes nothing.
 use mathlib.Core.List.{[], _∷_}
 use native.Mathlib.Omega.{arith}
 use borrow.Author.Needs.{needs}
-use Rattle.listing.specs.Lines.{firstLine}
-use Rattle.listing.proofs.Texts.{begun, reworded, counts}
-use Rattle.listing.proofs.Lines.{two-fields}
-use Rattle.listing.proofs.first_line.Statement.{statement}
-use Rattle.listing.proofs.first_line.Tie as tie
+use Rattle.lines.specs.Lines.{firstLine}
+use Rattle.lines.proofs.Texts.{begun, reworded, counts}
+use Rattle.lines.proofs.Lines.{two-fields}
+use Rattle.lines.proofs.first_line.Statement.{statement}
+use Rattle.lines.proofs.first_line.Tie as tie
 
 returns : tie.Need-returns
 unfolding firstLine

@@ -1,16 +1,10 @@
--- What a call leaves in the lent bytes.
+-- What moving bytes to the front leaves in the lent bytes.
 -- Assumes nothing: these are definitions.
 use Prim.Native.Nat.{ℕ, _-_}
 use mathlib.Core.Bool.{true, false, _&&_}
-use mathlib.Core.Path.{_≡_}
 use mathlib.Core.List.{List, _++_}
 use lib.ListN.{length, take, drop}
 use lib.Dec.{leb}
-
--- a text was written to the start of old, which gave new: r is its length, and what stood behind it stays
-pub record Written (text old new : List ℕ) (r : ℕ) : Type 0 where
-  pub is : new ≡ text ++ drop r old
-  pub size : r ≡ length text
 
 -- the bytes from a place to an end stand at the front, and the others stay; nothing changes where there are no such bytes
 unfoldable pub toFront : (at end : ℕ) → List ℕ → List ℕ

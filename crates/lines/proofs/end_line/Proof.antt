@@ -1,13 +1,13 @@
--- `listing::end_line` meets its contract.
+-- `lines::end_line` meets its contract.
 -- Assumes nothing.
 use mathlib.Core.List.{[], _∷_}
 use native.Mathlib.Omega.{arith}
 use borrow.Author.Needs.{needs}
-use Rattle.listing.specs.Lines.{endLine}
-use Rattle.listing.proofs.Texts.{begun, reworded, counts}
-use Rattle.listing.proofs.Lines.{two-fields}
-use Rattle.listing.proofs.end_line.Statement.{statement}
-use Rattle.listing.proofs.end_line.Tie as tie
+use Rattle.lines.specs.Lines.{endLine}
+use Rattle.lines.proofs.Texts.{begun, reworded, counts}
+use Rattle.lines.proofs.Lines.{two-fields}
+use Rattle.lines.proofs.end_line.Statement.{statement}
+use Rattle.lines.proofs.end_line.Tie as tie
 
 returns : tie.Need-returns
 unfolding endLine

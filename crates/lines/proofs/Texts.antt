@@ -9,7 +9,7 @@ use lib.ListN.{length, take, drop, set, length-append, length-drop}
 use lib.Seq.{take-at, drop-at, drop-drop, set-split, append-snoc}
 use Rattle.wire.specs.Bytes.{put}
 use Rattle.wire.proofs.Parts.{put-fits}
-use Rattle.listing.specs.Written.{Written}
+use Rattle.lines.specs.Written.{Written}
 
 module _ {text old new : List ℕ} {at : ℕ} (w : Written text old new at) where
   front : take at new ≡ text

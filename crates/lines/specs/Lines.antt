@@ -2,8 +2,8 @@
 -- Assumes nothing: these are definitions.
 use Prim.Native.Nat.{ℕ}
 use mathlib.Core.List.{List, [], _∷_, _++_}
-use Rattle.listing.specs.Decimal.{decimal, signedDecimal}
-use Rattle.listing.specs.declared.Summary.{Summary}
+use Rattle.lines.specs.Decimal.{decimal, signedDecimal}
+use Rattle.lines.specs.declared.Summary.{Summary}
 
 abbrev pub tab : ℕ
 tab = 9

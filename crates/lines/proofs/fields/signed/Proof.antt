@@ -1,4 +1,4 @@
--- `listing::fields::signed` meets its contract: the sign is told by the bits.
+-- `lines::fields::signed` meets its contract: the sign is told by the bits.
 -- Assumes nothing.
 use mathlib.Core.Path.{_≡_, ap, _∙_}
 use mathlib.Core.List.{[], _∷_, _++_, append-assoc}
@@ -6,10 +6,10 @@ use native.Mathlib.Omega.{arith}
 use borrow.Author.Needs.{needs}
 use mir.Facts.{toZ-ofZ}
 use Rattle.wire.specs.Bytes.{bits32}
-use Rattle.listing.proofs.Digits.{not-negative, negative}
-use Rattle.listing.proofs.Texts.{put-behind}
-use Rattle.listing.proofs.fields.signed.Statement.{statement}
-use Rattle.listing.proofs.fields.signed.Tie as tie
+use Rattle.lines.proofs.Digits.{not-negative, negative}
+use Rattle.lines.proofs.Texts.{put-behind}
+use Rattle.lines.proofs.fields.signed.Statement.{statement}
+use Rattle.lines.proofs.fields.signed.Tie as tie
 
 returns : tie.Need-returns
 returns c =

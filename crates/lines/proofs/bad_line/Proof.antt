@@ -1,13 +1,13 @@
--- `listing::bad_line` meets its contract: field by field.
+-- `lines::bad_line` meets its contract: field by field.
 -- Assumes nothing.
 use mathlib.Core.List.{[], _∷_}
 use native.Mathlib.Omega.{arith}
 use borrow.Author.Needs.{needs}
-use Rattle.listing.specs.Lines.{badLine}
-use Rattle.listing.proofs.Texts.{begun, reworded, counts}
-use Rattle.listing.proofs.Lines.{four-fields}
-use Rattle.listing.proofs.bad_line.Statement.{statement}
-use Rattle.listing.proofs.bad_line.Tie as tie
+use Rattle.lines.specs.Lines.{badLine}
+use Rattle.lines.proofs.Texts.{begun, reworded, counts}
+use Rattle.lines.proofs.Lines.{four-fields}
+use Rattle.lines.proofs.bad_line.Statement.{statement}
+use Rattle.lines.proofs.bad_line.Tie as tie
 
 returns : tie.Need-returns
 unfolding badLine

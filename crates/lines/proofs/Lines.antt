@@ -3,7 +3,7 @@
 use Prim.Native.Nat.{ℕ}
 use mathlib.Core.Path.{_≡_}
 use mathlib.Core.List.{List, [], _∷_, _++_, append-assoc}
-use Rattle.listing.specs.Lines.{tab, newline, line}
+use Rattle.lines.specs.Lines.{tab, newline, line}
 
 pub two-fields : (a b : List ℕ) → a ++ tab ∷ [] ++ (b ++ newline ∷ []) ≡ line (a ∷ b ∷ [])
 unfolding line
