@@ -2,4 +2,3 @@ pub mod Held
 pub mod Section
 pub mod Appending
 pub mod Answers
-pub mod Stored

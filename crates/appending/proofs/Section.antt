@@ -26,6 +26,7 @@ use Rattle.message.specs.Append.{sequenceBytes}
 use Rattle.naming.proofs.Texts.{among-append, among-last}
 use Rattle.sections.proofs.Gather.{body-stays, sequences-more}
 use Rattle.sections.proofs.Turns.{run-turns}
+use Rattle.storing.proofs.Size.{sizeOf, bytes-length}
 use Rattle.appending.specs.Grown.{entry}
 use Rattle.appending.proofs.Held.{Held}
 
@@ -40,37 +41,33 @@ until-append (x ∷ xs) r h = go (eqb x 0) refl (until-append xs r)
 
 module _ (name documents : List ℕ) where
   -- its size, and its bytes
-  abbrev pub sizeOf : ℕ
-  sizeOf = length name + 5 + length documents
+  abbrev size : ℕ
+  size = sizeOf name documents
 
   abbrev bytes : List ℕ
   bytes = sequenceBytes name documents
-
-  pub bytes-length : length bytes ≡ 1 + sizeOf
-  unfolding sequenceBytes le32
-  bytes-length = rw (length-append name (0 ∷ documents)) (omega arith)
 
   bytes-kind : getD bytes 0 0 ≡ 1
   unfolding sequenceBytes
   bytes-kind = refl
 
-  bytes-size : sizeOf < 2 ^ 32 → word (drop 1 bytes) ≡ sizeOf
+  bytes-size : size < 2 ^ 32 → word (drop 1 bytes) ≡ size
   unfolding sequenceBytes
-  bytes-size l = word-le32 sizeOf _ l
+  bytes-size l = word-le32 size _ l
 
   behind-size : drop 5 bytes ≡ name ++ (0 ∷ documents)
   unfolding sequenceBytes le32
   behind-size = refl
 
-  bytes-name : untilZero name ≡ length name → untilZero (take (sizeOf - 4) (drop 5 bytes)) ≡ length name
-  bytes-name z = rw (behind-size, take-all (sizeOf - 4) (name ++ (0 ∷ documents)) (omega (arith, length-append name (0 ∷ documents)))) (until-append name documents z)
+  bytes-name : untilZero name ≡ length name → untilZero (take (size - 4) (drop 5 bytes)) ≡ length name
+  bytes-name z = rw (behind-size, take-all (size - 4) (name ++ (0 ∷ documents)) (omega (arith, length-append name (0 ∷ documents)))) (until-append name documents z)
 
-  bytes-documents : take (sizeOf - (length name + 5)) (drop (length name + 6) bytes) ≡ documents
+  bytes-documents : take (size - (length name + 5)) (drop (length name + 6) bytes) ≡ documents
   bytes-documents =
       let i : 5 + (length name + 1) ≡ length name + 6 = omega arith in
       let rest : drop (length name + 6) bytes ≡ documents =
       rw (← i) (sym (drop-drop (length name + 1) 5 bytes) ∙ ap (drop (length name + 1)) behind-size ∙ drop-append-add name (0 ∷ documents) 1) in
-      rw rest (take-all (sizeOf - (length name + 5)) documents (omega arith))
+      rw rest (take-all (size - (length name + 5)) documents (omega arith))
 
   -- the run of its documents, at their place
   abbrev pub runAt : (at elements : ℕ) → Outcome Run
@@ -81,34 +78,34 @@ module _ (name documents : List ℕ) where
   withSection at p run = record { sections = p .sections ++ (sequence at (entry at (length name) (length documents) (run .documents)) ∷ []); elements = run .elements }
 
   module _ (e : Edition) (at : ℕ) (p : Parts) (k : knows e 1 ≡ true) (room : length (sequencesOf (p .sections)) < maxSequences)
-      (some : 0 < length name) (z : untilZero name ≡ length name) (small : sizeOf < 2 ^ 31) where
-    section-checked : sectionAt e at bytes p ≡ sequenceRun (length name) sizeOf at bytes p
+      (some : 0 < length name) (z : untilZero name ≡ length name) (small : size < 2 ^ 31) where
+    section-checked : sectionAt e at bytes p ≡ sequenceRun (length name) size at bytes p
     unfolding sectionAt sectionOf sequenceSection _>>=_ refuse
     section-checked =
         rw (
           bytes-kind,
           k,
           lt-leb maxSequences (length (sequencesOf (p .sections))) room,
-          bytes-length,
-          le-ltb (1 + sizeOf) 5 (omega arith),
+          bytes-length name documents,
+          le-ltb (1 + size) 5 (omega arith),
           bytes-size (omega arith),
-          not-under 5 sizeOf (omega arith) small,
-          le-ltb (1 + sizeOf) (1 + sizeOf) (omega arith),
+          not-under 5 size (omega arith) small,
+          le-ltb (1 + size) (1 + size) (omega arith),
           bytes-name z,
           ne-eqb (length name) 0 (λ i. omega arith),
-          lt-leb (sizeOf - 4) (length name) (omega arith),
+          lt-leb (size - 4) (length name) (omega arith),
         )
 
     -- it is read as its documents are
-    pub section-walked : walk (sectionAt e) (1 + sizeOf) at bytes p ≡ (runAt at (p .elements) >>= λ run. ok (withSection at p run))
+    pub section-walked : walk (sectionAt e) (1 + size) at bytes p ≡ (runAt at (p .elements) >>= λ run. ok (withSection at p run))
     unfolding sequenceRun entry _>>=_
     section-walked =
-        let i : 1 + sizeOf ≡ suc sizeOf = omega arith in
-        let l = bytes-length in
-        let end : drop (1 + sizeOf) bytes ≡ [] = drop-of-length-le bytes {i = 1 + sizeOf} (omega arith) in
-        ap (λ (n : ℕ). walk (sectionAt e) n at bytes p) i ∙ walk-step (sectionAt e) sizeOf at bytes p (omega arith)
-        ∙ rw (section-checked, bytes-documents, run-turns sizeOf (length documents) (at + (length name + 6)) documents (record { documents = 0; elements = p .elements }) (omega arith) (omega arith))
-        (assoc (runAt at (p .elements)) _ _ ∙ same-after (runAt at (p .elements)) _ _ (λ run g. rw end (walk-done (sectionAt e) sizeOf _ (withSection at p run))))
+        let i : 1 + size ≡ suc size = omega arith in
+        let l = bytes-length name documents in
+        let end : drop (1 + size) bytes ≡ [] = drop-of-length-le bytes {i = 1 + size} (omega arith) in
+        ap (λ (n : ℕ). walk (sectionAt e) n at bytes p) i ∙ walk-step (sectionAt e) size at bytes p (omega arith)
+        ∙ rw (section-checked, bytes-documents, run-turns size (length documents) (at + (length name + 6)) documents (record { documents = 0; elements = p .elements }) (omega arith) (omega arith))
+        (assoc (runAt at (p .elements)) _ _ ∙ same-after (runAt at (p .elements)) _ _ (λ run g. rw end (walk-done (sectionAt e) size _ (withSection at p run))))
 
 -- ---- names
 

@@ -2,9 +2,9 @@
 -- Assumes nothing: these are definitions.
 use Prim.Native.Nat.{ℕ, _+_}
 use mathlib.Core.Bool.{not}
-use mathlib.Core.List.{List, _++_}
+use mathlib.Core.List.{List}
 use mathlib.Core.Path.{_≡_}
-use lib.ListN.{length, drop, set}
+use lib.ListN.{length, set}
 use lib.Dec.{ltb, leb, eqb}
 use Rattle.wire.specs.Outcome.{Outcome, ok, refuse, _>>=_}
 use Rattle.wire.specs.Bytes.{untilZero}
@@ -44,10 +44,6 @@ grown v at n d documents elements = record {
   sequences = set (v .sequences) (v .«sequence_count») (entry at n d documents);
   elements = elements;
 }
-
--- what stands in an output after the bytes m were stored over it
-abbrev pub over : List ℕ → List ℕ → List ℕ
-over m old = m ++ drop (length m) old
 
 -- what is known where only names are left to check: the message is read, the checks are passed, and the documents are counted
 pub record Ready (e : Edition) (s identifier documents : List ℕ) (v : View) (end number elements room : ℕ) : Type 0 where

@@ -1,6 +1,5 @@
 // Appending a document sequence to a message.
 mod checks;
-mod storing;
 
 use checks::checks;
 use header::checksum_size;
@@ -159,7 +158,7 @@ pub fn append(e: Edition, s: &[u8], identifier: &[u8], documents: &[u8], out: &m
             documents: number,
             elements,
         } => {
-            storing::message(out, s, end, v.flags, identifier, documents);
+            storing::appended(out, s, end, v.flags, identifier, documents);
             let view = grown(v, end, identifier.len(), documents.len(), number, elements);
             Reading {
                 verdict: Verdict::Accepted,

@@ -18,7 +18,7 @@ use Rattle.message.specs.Message.{message, checksum, wholeLength}
 use Rattle.message.specs.Forward.{forwarded, forward}
 use Rattle.message.proofs.Message.{header-length, header-word, stated-length, stated-end}
 use Rattle.message.proofs.Forwarded.{view-length, form}
-use Rattle.relay.proofs.Stores.{Stored, stores-none, stores, sealed}
+use Rattle.storing.proofs.Stores.{Stored, stores-none, stores, sealed}
 
 -- what forwarding answers: reading's refusal, 25, or the message
 module _ (e : Edition) (s : List ℕ) (room : ℕ) where

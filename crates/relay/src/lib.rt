@@ -1,6 +1,4 @@
-// The calls of the library: forwarding, writing and appending.
-pub mod storing;
-
+// Forwarding a message.
 use header::checksum_size;
 use opmsg::answer::refusal;
 use opmsg::read;

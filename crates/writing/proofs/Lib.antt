@@ -1,3 +1,2 @@
 pub mod Examined
-pub mod Laid
 pub mod Written

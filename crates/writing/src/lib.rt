@@ -10,7 +10,6 @@ use protocol::Reading;
 use protocol::Verdict;
 use protocol::View;
 use protocol::refused;
-use relay::storing::seal;
 use sections::no_sequence;
 use wire::bits32;
 use wire::put;
@@ -25,7 +24,6 @@ ghost use Rattle.protocol.specs.Layout.{checksumSize};
 ghost use Rattle.protocol.specs.View.{answer};
 ghost use Rattle.message.specs.Message.{wholeLength, viewed, output};
 ghost use Rattle.message.specs.Write.{written, write};
-ghost use Rattle.relay.proofs.Stores.{Stored};
 ghost use Rattle.writing.specs.Answers.{Checked, Decided, examined, shown};
 
 // The checks before the body is read: 8, 2, 25 and 15.
@@ -102,21 +100,6 @@ fn view(
     }
 }
 
-// Stores the message from left to right, where there is room.
-fn store(request_id: i32, response_to: i32, flags: u32, body: &[u8], size: u32, out: &mut [u8])
-    requires { ⌜ (size ≡ wholeLength flags (0 ∷ now body)) × (size ≤ length (now out)) ⌝ }
-    ensures { λ _. ⌜ Stored (written «request_id» «response_to» flags (now (body .entry))) (now (out .entry)) (now (out .exit)) ⌝ }
-{
-    put_word(out, 0, size);
-    put_word(out, 4, bits32(request_id));
-    put_word(out, 8, bits32(response_to));
-    put_word(out, 12, 2013);
-    put_word(out, 16, flags);
-    out[20] = 0;
-    put(out, 21, body);
-    seal(out, 21 + body.len(), flags);
-}
-
 // Writes a message to the start of `out`, which a refusal leaves alone.
 pub fn write(
     e: Edition,
@@ -144,7 +127,7 @@ pub fn write(
                 body.len() as u32,
                 count,
             );
-            store(request_id, response_to, flags, body, size, out);
+            storing::written(request_id, response_to, flags, body, size, out);
             Reading {
                 verdict: Verdict::Accepted,
                 view,

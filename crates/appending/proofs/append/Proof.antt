@@ -30,8 +30,8 @@ examine-requires c κs =
     let p8 = p3 .before .before .before .before .before in
     answer-accepted (read (p8 .args .e) (p8 .args .s .now)) _ (p3 .read .ensures) (c .before .enum-told .given .1)
 
-message-requires : tie.Need-message-requires
-message-requires c κs =
+appended-requires : tie.Need-appended-requires
+appended-requires c κs =
     let p2 = c .before .before in
     let k = (rw (p2 .end .given .1) at (p2 .before .before .examine .ensures)) .0 in
     (ready-low k, ready-inside k, omega (arith, ready-length k, ready-allowed k .fits), omega (arith, ready-length k, ready-small k))
@@ -49,7 +49,7 @@ returns-2 c =
     let p3 = c .before .before .before in
     let p6 = p3 .before .before .before in
     let h = (rw (p6 .end .given .1) at (p6 .before .before .examine .ensures)) .1 in
-    (rw (h, c .grown .ensures), p3 .message .ensures ∙ rw h)
+    (rw (h, c .grown .ensures), p3 .appended .ensures ∙ rw h)
 
 returns-3 : tie.Need-returns-3
 unfolding viewed output _>>=_
@@ -68,7 +68,7 @@ append-spec =
     returns
     examine-requires
     (λ c. search needs)
-    message-requires
+    appended-requires
     grown-requires
     (λ c. search needs)
     (λ c κs. search needs)

@@ -37,9 +37,9 @@ cast-view : tie.Need-cast-view
 unfolding wholeLength
 cast-view c = omega (arith, fit (c .before .before .before .before .before) .limit, maxLength-small)
 
-store-requires : tie.Need-store-requires
+written-requires : tie.Need-written-requires
 unfolding wholeLength
-store-requires c κs =
+written-requires c κs =
     let p2 = c .before .before in
     (omega (arith, p2 .whole .ensures), omega (arith, p2 .whole .ensures, fit (c .before .before .before .before .before .before .before) .holds))
 
@@ -56,7 +56,7 @@ returns-2 c =
     let j = toZ-ofZ (p15 .fits .response-to) in
     let n : p5 .whole .result ≡ wholeLength (p15 .args .flags) (0 ∷ p15 .args .body .now) = omega (arith, p5 .whole .ensures) in
     rw (write-accepted (p15 .args .e) (p15 .args .request-id) (p15 .args .response-to) (p15 .args .flags) (p15 .args .body .now) _ (fit (c .before .before .before .before .before .before .before .before .before .before)) (p15 .fits .flags .fits) (p15 .fits .request-id) (p15 .fits .response-to) (sym (p9 .examine .ensures) ∙ ap told (p7 .count .given .1)))
-    (rw (p4 .view .ensures, i, j, n), rw (i, j) at (p2 .store .ensures))
+    (rw (p4 .view .ensures, i, j, n), rw (i, j) at (p2 .written .ensures))
 
 returns-3 : tie.Need-returns-3
 unfolding viewed output _>>=_
@@ -80,7 +80,7 @@ write-spec =
     whole-requires
     cast-view
     (λ c κs. search needs)
-    store-requires
+    written-requires
     (λ c. search needs)
     (λ c κs. search needs)
     (λ c. search needs)

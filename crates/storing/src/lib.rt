@@ -1,16 +1,54 @@
-// The bytes of a message with one section more, stored from left to right.
+// The bytes of a message, stored from left to right once all is decided.
 use header::checksum_size;
-use relay::storing::seal;
+use header::flags::checksummed;
+use wire::bits32;
 use wire::put;
 use wire::put_word;
-ghost use mathlib.Core.List.{_++_};
+ghost use mathlib.Core.List.{_∷_, _++_};
 ghost use mathlib.Core.Path.{_≡_};
 ghost use Prim.Native.Nat.{_+_, _-_, _^_, _<_, _≤_};
 ghost use lib.ListN.{length, take, drop};
 ghost use Rattle.wire.specs.Bytes.{put};
 ghost use Rattle.protocol.specs.Layout.{checksumSize};
+ghost use Rattle.message.specs.Message.{checksum, wholeLength};
+ghost use Rattle.message.specs.Write.{written};
 ghost use Rattle.message.specs.Append.{sequenceBytes, appended};
-ghost use Rattle.appending.specs.Grown.{over};
+ghost use Rattle.storing.specs.Over.{over};
+
+// Stores the checksum of the first `end` bytes behind them, where the flag word has bit 0 and there is room; else nothing changes.
+pub fn seal(out: &mut [u8], end: usize, flags: u32)
+    ensures { λ _. ⌜ now (out .exit) ≡ put end (checksum flags (take end (now (out .entry)))) (now (out .entry)) ⌝ }
+{
+    if out.len() < end {
+        return;
+    }
+    if checksummed(flags) {
+        let sum = crc32c::crc(&out[..end]);
+        put_word(out, end, sum);
+    }
+}
+
+// Stores a message that has a body alone.
+pub fn written(
+    request_id: i32,
+    response_to: i32,
+    flags: u32,
+    body: &[u8],
+    size: u32,
+    out: &mut [u8],
+)
+    requires { ⌜ (size ≡ wholeLength flags (0 ∷ now body)) × (size ≤ length (now out)) ⌝ }
+    ensures { λ _. ⌜ now (out .exit) ≡ over (written «request_id» «response_to» flags (now (body .entry))) (now (out .entry)) ⌝ }
+{
+    put_word(out, 0, size);
+    put_word(out, 4, bits32(request_id));
+    put_word(out, 8, bits32(response_to));
+    put_word(out, 12, 2013);
+    put_word(out, 16, flags);
+    out[20] = 0;
+    put(out, 21, body);
+    seal(out, 21 + body.len(), flags);
+}
 
 // Stores a section of kind 1 at a place.
 fn section(out: &mut [u8], at: usize, identifier: &[u8], documents: &[u8])
@@ -26,7 +64,7 @@ fn section(out: &mut [u8], at: usize, identifier: &[u8], documents: &[u8])
 }
 
 // Stores the message s, whose sections end at `end`, with a flag word and a new section.
-pub(crate) fn message(
+pub fn appended(
     out: &mut [u8],
     s: &[u8],
     end: usize,

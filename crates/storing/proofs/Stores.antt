@@ -10,12 +10,13 @@ use lib.Seq.{take-at, drop-append-add, drop-drop, sets-eq}
 use Rattle.wire.specs.Bytes.{put}
 use Rattle.wire.proofs.Parts.{put-fits}
 use Rattle.protocol.specs.Layout.{checksumSize}
-use Rattle.message.specs.Message.{checksum, output}
+use Rattle.message.specs.Message.{checksum}
 use Rattle.message.proofs.Message.{length-checksum}
+use Rattle.storing.specs.Over.{over}
 
 -- what stands there after the bytes p were stored over old
 abbrev pub Stored : List ℕ → List ℕ → List ℕ → Type 0
-Stored p old now = now ≡ p ++ drop (length p) old
+Stored p old now = now ≡ over p old
 
 -- nothing is stored yet
 pub stores-none : (old : List ℕ) → Stored [] old old

@@ -1,12 +1,12 @@
--- `writing::store` meets its contract: each part of the message is stored behind those before it.
+-- `storing::written` meets its contract: each part of the message is stored behind those before it.
 -- Assumes nothing.
 use mathlib.Core.Path.{ap, _∙_}
 use mir.Facts.{toZ-ofZ}
 use borrow.Author.Needs.{needs}
 use Rattle.wire.specs.Bytes.{bits32}
-use Rattle.writing.proofs.Laid.{kind-fits, laid, laid-length}
-use Rattle.writing.proofs.store.Statement.{statement}
-use Rattle.writing.proofs.store.Tie as tie
+use Rattle.storing.proofs.Laid.{kind-fits, laid, laid-length}
+use Rattle.storing.proofs.written.Statement.{statement}
+use Rattle.storing.proofs.written.Tie as tie
 
 slice-write-out : tie.Need-slice-write-out
 slice-write-out c =
@@ -43,8 +43,8 @@ same-length c =
     let p32 = c .before .before .before .before .before .before .before .before .before .before .before .before .before .before .before .before .before .before .before .before .before .before .before .before .before .before .before .before .before .before .before .before in
     laid-length _ _ _ _ _ _ (rw (p32 .pre .0) at (p32 .pre .1)) (returns c)
 
-pub store-spec : {M : Type 1} → statement M
-store-spec =
+pub written-spec : {M : Type 1} → statement M
+written-spec =
     tie.close
     (tie.spec
     (λ c κs. search needs)

@@ -1,9 +1,9 @@
--- `appending::storing::message` meets its contract: header, flag word, sections and checksum are stored one behind the other.
+-- `storing::appended` meets its contract: header, flag word, sections and checksum are stored one behind the other.
 -- Assumes nothing.
 use borrow.Author.Needs.{needs}
-use Rattle.appending.proofs.Stored.{message-stored}
-use Rattle.appending.proofs.storing.message.Statement.{statement}
-use Rattle.appending.proofs.storing.message.Tie as tie
+use Rattle.storing.proofs.Grown.{message-stored}
+use Rattle.storing.proofs.appended.Statement.{statement}
+use Rattle.storing.proofs.appended.Tie as tie
 
 returns : tie.Need-returns
 returns c =
@@ -17,8 +17,8 @@ returns c =
     let p31 = p25 .before .before .before .before .before .before in
     message-stored _ _ _ _ _ _ (p31 .pre .0) (p31 .pre .1) (p31 .pre .2) (rw (← p25 .checksum-size .ensures) (p24 .put-word .ensures)) (p19 .put .ensures) (p15 .put-word2 .ensures) (p10 .put2 .ensures) (p6 .section .ensures) (p2 .seal .ensures)
 
-pub message-spec : {M : Type 1} → statement M
-message-spec =
+pub appended-spec : {M : Type 1} → statement M
+appended-spec =
     tie.close
     (tie.spec
     (λ c. search needs)

@@ -11,19 +11,9 @@ use Rattle.wire.proofs.Parts.{put-fits}
 use Rattle.protocol.specs.Layout.{checksumSize}
 use Rattle.message.specs.Message.{checksum, message, wholeLength}
 use Rattle.message.specs.Append.{sequenceBytes, appended}
-use Rattle.relay.proofs.Stores.{Stored, stores-none, stores, stored-length, sealed}
-use Rattle.appending.specs.Grown.{over}
-use Rattle.appending.proofs.Section.{sizeOf, bytes-length}
-
--- one byte
-put-one : (at x : ℕ) (old : List ℕ) → at < length old → set old at x ≡ put at (x ∷ []) old
-put-one at x old h = sets-eq (x ∷ []) old at (omega arith) ∙ sym (put-fits at (x ∷ []) old (omega arith))
-
--- one byte more
-stores-one : (p old now : List ℕ) (at x : ℕ) → length p ≡ at → length p < length old → Stored p old now → Stored (p ++ (x ∷ [])) old (set now at x)
-stores-one p old now at x l h e =
-    let long = stored-length p old now (omega arith) e in
-    rw (put-one at x now (omega arith)) (stores p (x ∷ []) old now at l (omega arith) e)
+use Rattle.storing.specs.Over.{over}
+use Rattle.storing.proofs.Stores.{Stored, stores-none, stores, stores-byte, sealed}
+use Rattle.storing.proofs.Size.{sizeOf, bytes-length}
 
 module _ (at : ℕ) (name documents old : List ℕ) (fits : at + (1 + sizeOf name documents) ≤ length old) where
   front-length : length (take at old) ≡ at
@@ -45,13 +35,13 @@ module _ (at : ℕ) (name documents old : List ℕ) (fits : at + (1 + sizeOf nam
       let l₀ = front-length in
       let p₁ = take at old ++ (1 ∷ []) in
       let l₁ = length-append (take at old) (1 ∷ []) in
-      let s₁ = stores-one (take at old) old old at 1 l₀ (omega arith) front-stored in
+      let s₁ = stores-byte (take at old) old old 1 at l₀ (omega arith) front-stored in
       let l₂ = length-append p₁ size in
       let s₂ : Stored (p₁ ++ size) old now₂ = rw e₂ (stores p₁ size old (set old at 1) (at + 1) (omega arith) (omega arith) s₁) in
       let l₃ = length-append (p₁ ++ size) name in
       let s₃ : Stored (p₁ ++ size ++ name) old now₃ = rw e₃ (stores (p₁ ++ size) name old now₂ (at + 5) (omega arith) (omega arith) s₂) in
       let l₄ = length-append (p₁ ++ size ++ name) (0 ∷ []) in
-      let s₄ = stores-one (p₁ ++ size ++ name) old now₃ (at + 5 + length name) 0 (omega arith) (omega arith) s₃ in
+      let s₄ = stores-byte (p₁ ++ size ++ name) old now₃ 0 (at + 5 + length name) (omega arith) (omega arith) s₃ in
       let s₅ = stores (p₁ ++ size ++ name ++ (0 ∷ [])) documents old (set now₃ (at + 5 + length name) 0) (at + 6 + length name) (omega arith) (omega arith) s₄ in
       let l₅ = bytes-length name documents in
       e₅ ∙ s₅ ∙ rw (parts-stored, length-append (take at old) (sequenceBytes name documents), l₀) (sym (put-fits at (sequenceBytes name documents) old (omega arith)))

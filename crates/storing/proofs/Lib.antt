@@ -1,0 +1,4 @@
+pub mod Stores
+pub mod Laid
+pub mod Size
+pub mod Grown
