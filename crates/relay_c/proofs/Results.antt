@@ -21,7 +21,8 @@ use Rattle.protocol.proofs.Answered.{answer-refused, answer-accepted}
 use Rattle.message.specs.Message.{Written, viewed, output}
 use Rattle.message.specs.Forward.{forward}
 use Rattle.relay.proofs.Forwards.{forward-short, forward-fits}
-use Rattle.relay_c.specs.Interface.{viewNumbers, viewSize, withRoom, result, numbers}
+use Rattle.numbers.specs.Numbers.{viewNumbers, viewSize}
+use Rattle.relay_c.specs.Interface.{withRoom, result, numbers}
 
 module _ {A : Type 0} (room : ℕ) (o : Outcome A) where
   -- the call's own refusal

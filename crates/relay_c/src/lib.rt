@@ -1,6 +1,4 @@
 // The calls of the library for C and Rust: numbers and slices only. host/relay.h is their manual.
-mod numbers;
-
 use numbers::show;
 use protocol::Edition;
 use protocol::Verdict;

@@ -3,7 +3,7 @@
 use lib.ListN.{length}
 use borrow.Author.Needs.{needs}
 use Rattle.message.specs.Forward.{forward}
-use Rattle.relay_c.specs.Interface.{viewSize}
+use Rattle.numbers.specs.Numbers.{viewSize}
 use Rattle.relay_c.proofs.Results.{promised-short, promised-refusal, promised-all}
 use Rattle.relay_c.proofs.relay_forward.Statement.{statement}
 use Rattle.relay_c.proofs.relay_forward.Tie as tie

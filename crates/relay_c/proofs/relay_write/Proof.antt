@@ -4,7 +4,7 @@ use lib.ListN.{length}
 use mir.Facts.{toZ-ofZ}
 use borrow.Author.Needs.{needs}
 use Rattle.message.specs.Write.{write}
-use Rattle.relay_c.specs.Interface.{viewSize}
+use Rattle.numbers.specs.Numbers.{viewSize}
 use Rattle.relay_c.proofs.Results.{promised-short, promised-refusal, promised-all}
 use Rattle.relay_c.proofs.relay_write.Statement.{statement}
 use Rattle.relay_c.proofs.relay_write.Tie as tie

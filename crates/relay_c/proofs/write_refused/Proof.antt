@@ -1,7 +1,8 @@
 -- `relay_c::write_refused` meets its contract: writing's own refusal, or 25.
 -- Assumes nothing.
 use borrow.Author.Needs.{needs}
-use Rattle.relay_c.specs.Interface.{viewSize, result}
+use Rattle.numbers.specs.Numbers.{viewSize}
+use Rattle.relay_c.specs.Interface.{result}
 use Rattle.relay_c.proofs.Results.{own-refusal, no-room}
 use Rattle.relay_c.proofs.write_refused.Statement.{statement}
 use Rattle.relay_c.proofs.write_refused.Tie as tie

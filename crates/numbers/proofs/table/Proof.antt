@@ -1,13 +1,13 @@
--- `relay_c::numbers::table` meets its contract: each turn stores the numbers of one sequence more.
+-- `numbers::table` meets its contract: each turn stores the numbers of one sequence more.
 -- Assumes nothing.
 use Prim.Native.Nat.{_-_, _≤_}
 use mathlib.Core.Path.{_≡_}
 use native.Mathlib.Omega.{arith}
 use lib.ListN.{length}
 use borrow.Author.Needs.{needs}
-use Rattle.relay_c.proofs.Rows.{Shown, shown-none, shown-next, shown-all, shown-long}
-use Rattle.relay_c.proofs.numbers.table.Statement.{statement}
-use Rattle.relay_c.proofs.numbers.table.Tie as tie
+use Rattle.numbers.proofs.Rows.{Shown, shown-none, shown-next, shown-all, shown-long}
+use Rattle.numbers.proofs.table.Statement.{statement}
+use Rattle.numbers.proofs.table.Tie as tie
 
 abbrev Inv-loop : tie.InvT-loop
 Inv-loop out₀ sequences i₀ out i = (length sequences ≡ 16) × (88 ≤ length out₀) × (i ≤ 16) × Shown out₀ sequences i out

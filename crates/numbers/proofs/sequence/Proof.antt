@@ -1,12 +1,12 @@
--- `relay_c::numbers::sequence` meets its contract: five numbers are stored one after the other.
+-- `numbers::sequence` meets its contract: five numbers are stored one after the other.
 -- Assumes nothing.
 use native.Mathlib.Omega.{arith}
 use lib.ListN.{length-set}
 use borrow.Author.Needs.{needs}
-use Rattle.relay_c.specs.Interface.{sequenceNumbers}
-use Rattle.relay_c.proofs.Rows.{small, five}
-use Rattle.relay_c.proofs.numbers.sequence.Statement.{statement}
-use Rattle.relay_c.proofs.numbers.sequence.Tie as tie
+use Rattle.numbers.specs.Numbers.{sequenceNumbers}
+use Rattle.numbers.proofs.Rows.{small, five}
+use Rattle.numbers.proofs.sequence.Statement.{statement}
+use Rattle.numbers.proofs.sequence.Tie as tie
 
 slice-set-from-out-2 : tie.Need-slice-set-from-out-2
 slice-set-from-out-2 c = simp length-set (omega arith)

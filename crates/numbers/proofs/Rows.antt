@@ -15,7 +15,7 @@ use borrow.Author.Tests.{lt-ltb}
 use Rattle.protocol.specs.View.{noSequence}
 use Rattle.protocol.specs.declared.Sequence.{Sequence}
 use Rattle.protocol.specs.declared.View.{View}
-use Rattle.relay_c.specs.Interface.{sequenceNumbers, tableNumbers, viewNumbers, viewSize}
+use Rattle.numbers.specs.Numbers.{sequenceNumbers, tableNumbers, viewNumbers, viewSize}
 
 -- a 32-bit number is the same as a signed one of 64 bits
 pub small : (n : ℕ) → n < 2 ^ 32 → toZ w64 n ≡ pos n

@@ -1,13 +1,13 @@
--- `relay_c::numbers::show` meets its contract: eight numbers are stored one after the other, and the table behind them.
+-- `numbers::show` meets its contract: eight numbers are stored one after the other, and the table behind them.
 -- Assumes nothing.
 use mathlib.Core.Path.{_∙_}
 use native.Mathlib.Omega.{arith}
 use lib.ListN.{length, length-set}
 use borrow.Author.Needs.{needs}
-use Rattle.relay_c.specs.Interface.{viewSize}
-use Rattle.relay_c.proofs.Rows.{small, id-fits, id-same, all-shown}
-use Rattle.relay_c.proofs.numbers.show.Statement.{statement}
-use Rattle.relay_c.proofs.numbers.show.Tie as tie
+use Rattle.numbers.specs.Numbers.{viewSize}
+use Rattle.numbers.proofs.Rows.{small, id-fits, id-same, all-shown}
+use Rattle.numbers.proofs.show.Statement.{statement}
+use Rattle.numbers.proofs.show.Tie as tie
 
 slice-set-from-out : tie.Need-slice-set-from-out
 unfolding viewSize

@@ -5,7 +5,7 @@ ghost use mathlib.Core.List.{_++_};
 ghost use mathlib.Core.Path.{_≡_};
 ghost use Prim.Native.Nat.{_+_, _≤_};
 ghost use lib.ListN.{length, take, drop};
-ghost use Rattle.relay_c.specs.Interface.{sequenceNumbers, tableNumbers, viewNumbers, viewSize};
+ghost use Rattle.numbers.specs.Numbers.{sequenceNumbers, tableNumbers, viewNumbers, viewSize};
 
 // The five numbers of a sequence, at a place.
 fn sequence(out: &mut [i64], at: usize, q: Sequence)
@@ -33,7 +33,7 @@ fn table(out: &mut [i64], sequences: [Sequence; 16])
 }
 
 // The numbers of a view, at the start of what is lent.
-pub(crate) fn show(v: View, out: &mut [i64])
+pub fn show(v: View, out: &mut [i64])
     requires { ⌜ viewSize ≤ length (now out) ⌝ }
     ensures { λ _. ⌜ now (out .exit) ≡ viewNumbers v ++ drop viewSize (now (out .entry)) ⌝ }
 {
