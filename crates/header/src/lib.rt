@@ -11,7 +11,7 @@ ghost use mathlib.Core.Path.{_≡_};
 ghost use Prim.Native.Nat.{_+_, _≤_};
 ghost use lib.ListN.{length};
 ghost use Rattle.wire.specs.Bytes.{oneOf};
-ghost use Rattle.protocol.specs.Layout.{maxLength, messageLength, checksumSize, checksumDiffers, flagWord};
+ghost use Rattle.protocol.specs.Layout.{messageLength, checksumSize, checksumDiffers, flagWord};
 ghost use Rattle.protocol.specs.Read.{header, flagged};
 ghost use Rattle.protocol.specs.Answers.{judged};
 

@@ -9,7 +9,6 @@ use lib.IntN.{pos}
 use Rattle.wire.specs.Outcome.{Outcome, ok, refused, refuse, _>>=_}
 use Rattle.wire.specs.Bytes.{word, wordAt, under, signed, bits32, le32, untilZero, oneOf}
 use Rattle.wire.specs.Walk.{walk}
-use Rattle.crc32c.specs.Crc.{shiftBit, shiftBits, intoByte, registerAfter, crcOf}
 use Rattle.values.specs.Value.{sized, cstring, string, binary, boolean, regex, pointer, codeWithScope, table, ruleIn}
 use Rattle.bson.specs.Document.{maxLevels, maxElements, frame, head, inside, element, documentAt, sizeOf, elementSize}
 use Rattle.protocol.specs.Flags.{common, kept, allKnown, checksummed, knows}

@@ -11,7 +11,7 @@ use wire::word;
 ghost use mathlib.Core.Path.{_≡_};
 ghost use Prim.Native.Nat.{_+_, _^_, _<_, _≤_};
 ghost use lib.ListN.{length};
-ghost use Rattle.wire.specs.Outcome.{ok, refused};
+ghost use Rattle.wire.specs.Outcome.{refused};
 ghost use Rattle.protocol.specs.Sections.{Parts};
 ghost use Rattle.protocol.specs.View.{noView, viewOf, answer};
 ghost use Rattle.protocol.specs.Answers.{Shows};

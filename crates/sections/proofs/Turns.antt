@@ -6,7 +6,7 @@ use mathlib.Core.List.{List}
 use native.Mathlib.Omega.{arith}
 use lib.ListN.{length, take, drop, length-take, length-drop}
 use lib.Seq.{drop-drop}
-use Rattle.wire.specs.Outcome.{Outcome, ok, refused}
+use Rattle.wire.specs.Outcome.{refused}
 use Rattle.wire.specs.Walk.{Step, step, walk}
 use Rattle.wire.proofs.Outcome.{ok-same, bound, go-on, halt}
 use Rattle.wire.proofs.Parts.{rest-part}

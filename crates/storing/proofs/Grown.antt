@@ -1,11 +1,11 @@
 -- The bytes of the new section and of the new message, as code stores them one behind the other.
 -- Assumes nothing.
-use Prim.Native.Nat.{ℕ, _+_, _-_, _<_, _≤_}
+use Prim.Native.Nat.{ℕ, _+_, _-_, _≤_}
 use mathlib.Core.Path.{_≡_, refl, sym, ap, _∙_}
 use mathlib.Core.List.{List, [], _∷_, _++_, append-assoc}
 use native.Mathlib.Omega.{arith}
 use lib.ListN.{length, take, drop, set, length-append, length-drop, take-append-drop}
-use lib.Seq.{length-take-le, sets-eq}
+use lib.Seq.{length-take-le}
 use Rattle.wire.specs.Bytes.{le32, put}
 use Rattle.wire.proofs.Parts.{put-fits}
 use Rattle.protocol.specs.Layout.{checksumSize}

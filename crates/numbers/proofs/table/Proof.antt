@@ -4,7 +4,6 @@ use Prim.Native.Nat.{_-_, _≤_}
 use mathlib.Core.Path.{_≡_}
 use native.Mathlib.Omega.{arith}
 use lib.ListN.{length}
-use borrow.Author.Needs.{needs}
 use Rattle.numbers.proofs.Rows.{Shown, shown-none, shown-next, shown-all, shown-long}
 use Rattle.numbers.proofs.table.Statement.{statement}
 use Rattle.numbers.proofs.table.Tie as tie

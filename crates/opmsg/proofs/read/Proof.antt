@@ -1,6 +1,6 @@
 -- `opmsg::read` meets its contract: the checks of the header, of the flag word, and of the rest, one behind the other.
 -- Assumes nothing.
-use mathlib.Core.Path.{_≡_, sym, ap, _∙_}
+use mathlib.Core.Path.{sym, ap, _∙_}
 use borrow.Author.Needs.{needs}
 use Rattle.wire.proofs.Outcome.{go-on, halt}
 use Rattle.protocol.specs.View.{answer}

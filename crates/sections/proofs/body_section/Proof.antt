@@ -1,6 +1,5 @@
 -- `sections::body_section` meets its contract: each way out has its test, or what the document is.
 -- Assumes nothing.
-use native.Mathlib.Omega.{arith}
 use borrow.Author.Needs.{needs}
 use borrow.Author.Tests.{lt-ltb, le-ltb}
 use Rattle.wire.specs.Outcome.{refuse, _>>=_}

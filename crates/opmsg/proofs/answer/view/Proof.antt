@@ -1,6 +1,5 @@
 -- `opmsg::answer::view` meets its contract: each number is read at its place, and the rest is what is kept of the sections.
 -- Assumes nothing.
-use native.Mathlib.Omega.{arith}
 use mir.Syntax.{w32}
 use mir.Facts.{toZ-ofZ}
 use borrow.Author.Needs.{needs}
