@@ -43,6 +43,9 @@ written-requires c κs =
     let p2 = c .before .before in
     (omega (arith, p2 .whole .ensures), omega (arith, p2 .whole .ensures, fit (c .before .before .before .before .before .before .before) .holds))
 
+refusal-requires-2 : tie.Need-refusal-requires-2
+refusal-requires-2 c κs = search needs
+
 returns-2 : tie.Need-returns-2
 unfolding viewed output _>>=_ answer wholeLength
 returns-2 c =
@@ -82,7 +85,7 @@ write-spec =
     (λ c κs. search needs)
     written-requires
     (λ c. search needs)
-    (λ c κs. search needs)
+    refusal-requires-2
     (λ c. search needs)
     returns-2
     returns-3)
