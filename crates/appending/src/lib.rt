@@ -2,7 +2,7 @@
 mod checks;
 
 use checks::checks;
-use header::checksum_size;
+use flags::checksum_size;
 use naming::names::taken;
 use opmsg::answer::refusal;
 use protocol::Edition;

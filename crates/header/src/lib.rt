@@ -1,6 +1,7 @@
 // Checks 1 to 9: the header, the flag word and the checksum.
-pub mod flags;
-
+use flags::checksum_size;
+use flags::checksummed;
+use flags::required_known;
 use protocol::Edition;
 use protocol::Verdict;
 use protocol::refused;
@@ -11,7 +12,7 @@ ghost use mathlib.Core.Path.{_≡_};
 ghost use Prim.Native.Nat.{_+_, _≤_};
 ghost use lib.ListN.{length};
 ghost use Rattle.wire.specs.Bytes.{oneOf};
-ghost use Rattle.protocol.specs.Layout.{messageLength, checksumSize, checksumDiffers, flagWord};
+ghost use Rattle.protocol.specs.Layout.{messageLength, checksumDiffers, flagWord};
 ghost use Rattle.protocol.specs.Read.{header, flagged};
 ghost use Rattle.protocol.specs.Answers.{judged};
 
@@ -76,19 +77,12 @@ pub fn header(s: &[u8]) -> Verdict
     Verdict::Accepted
 }
 
-// How many bytes the checksum takes.
-pub fn checksum_size(flags: u32) -> u32
-    ensures { λ r. ⌜ r ≡ checksumSize flags ⌝ }
-{
-    if flags::checksummed(flags) { 4 } else { 0 }
-}
-
 // There is a checksum, and it is not that of the bytes before it.
 fn checksum_differs(s: &[u8], length: usize, flags: u32) -> bool
     requires { ⌜ (4 ≤ length) × (length ≤ lib.ListN.length (now s)) ⌝ }
     ensures { λ r. ⌜ (length ≡ messageLength (now (s .entry)) → flags ≡ flagWord (now (s .entry)) → r ≡ checksumDiffers (now (s .entry))) ⌝ }
 {
-    if !flags::checksummed(flags) {
+    if !checksummed(flags) {
         return false;
     }
     let end = length - 4;
@@ -105,7 +99,7 @@ pub fn flagged(e: Edition, s: &[u8]) -> Verdict
         return refused(7, 16);
     }
     let flags = word(&s[16..]);
-    if !flags::required_known(e.bits, flags) {
+    if !required_known(e.bits, flags) {
         return refused(8, 16);
     }
     if n < 20 + checksum_size(flags) {

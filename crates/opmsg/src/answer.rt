@@ -1,5 +1,5 @@
 // Answers by value.
-use header::flags::kept;
+use flags::kept;
 use protocol::Edition;
 use protocol::Reading;
 use protocol::Verdict;

@@ -1,5 +1,5 @@
 // Forwarding a message.
-use header::checksum_size;
+use flags::checksum_size;
 use opmsg::answer::refusal;
 use opmsg::read;
 use protocol::Edition;

@@ -1,6 +1,6 @@
 // The bytes of a message, stored from left to right once all is decided.
-use header::checksum_size;
-use header::flags::checksummed;
+use flags::checksum_size;
+use flags::checksummed;
 use wire::bits32;
 use wire::put;
 use wire::put_word;

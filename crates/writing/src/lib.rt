@@ -1,8 +1,8 @@
 // Writing a message from its ids, flag word and body. The body is read where it lies, and nothing is stored before the answer is known.
 use bson::Walk;
+use flags::all_known;
+use flags::checksum_size;
 use header::LENGTH;
-use header::checksum_size;
-use header::flags::all_known;
 use naming::names::body_names;
 use opmsg::answer::refusal;
 use protocol::Edition;

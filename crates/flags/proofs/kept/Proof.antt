@@ -1,10 +1,10 @@
--- `header::flags::kept` meets its contract.
+-- `flags::kept` meets its contract.
 -- Assumes nothing.
 use native.Mathlib.Nat.{mod-eq-of-lt}
 use Rattle.protocol.specs.Flags.{kept}
-use Rattle.header.proofs.Masks.{common-and}
-use Rattle.header.proofs.flags.kept.Statement.{statement}
-use Rattle.header.proofs.flags.kept.Tie as tie
+use Rattle.flags.proofs.Masks.{common-and}
+use Rattle.flags.proofs.kept.Statement.{statement}
+use Rattle.flags.proofs.kept.Tie as tie
 
 returns : tie.Need-returns
 unfolding kept

@@ -1,9 +1,9 @@
--- `header::flags::required_known` meets its contract.
+-- `flags::required_known` meets its contract.
 -- Assumes nothing.
 use Rattle.protocol.specs.Flags.{allKnown}
-use Rattle.header.proofs.Masks.{common-and}
-use Rattle.header.proofs.flags.required_known.Statement.{statement}
-use Rattle.header.proofs.flags.required_known.Tie as tie
+use Rattle.flags.proofs.Masks.{common-and}
+use Rattle.flags.proofs.required_known.Statement.{statement}
+use Rattle.flags.proofs.required_known.Tie as tie
 
 returns : tie.Need-returns
 unfolding allKnown

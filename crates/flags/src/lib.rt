@@ -1,6 +1,7 @@
 // Flag words.
 ghost use mathlib.Core.Path.{_≡_};
 ghost use Rattle.protocol.specs.Flags.{kept, allKnown, checksummed};
+ghost use Rattle.protocol.specs.Layout.{checksumSize};
 
 // The flag word with its known bits alone.
 pub fn kept(bits: u32, flags: u32) -> u32
@@ -29,4 +30,11 @@ pub fn checksummed(flags: u32) -> bool
     ensures { λ r. ⌜ r ≡ checksummed flags ⌝ }
 {
     flags % 2 == 1
+}
+
+// How many bytes the checksum takes.
+pub fn checksum_size(flags: u32) -> u32
+    ensures { λ r. ⌜ r ≡ checksumSize flags ⌝ }
+{
+    if checksummed(flags) { 4 } else { 0 }
 }

@@ -1,10 +1,10 @@
--- `header::flags::all_known` meets its contract.
+-- `flags::all_known` meets its contract.
 -- Assumes nothing.
 use native.Mathlib.Nat.{mod-eq-of-lt}
 use Rattle.protocol.specs.Flags.{allKnown}
-use Rattle.header.proofs.Masks.{common-and}
-use Rattle.header.proofs.flags.all_known.Statement.{statement}
-use Rattle.header.proofs.flags.all_known.Tie as tie
+use Rattle.flags.proofs.Masks.{common-and}
+use Rattle.flags.proofs.all_known.Statement.{statement}
+use Rattle.flags.proofs.all_known.Tie as tie
 
 returns : tie.Need-returns
 unfolding allKnown

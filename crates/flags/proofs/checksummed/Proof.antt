@@ -1,9 +1,9 @@
--- `header::flags::checksummed` meets its contract.
+-- `flags::checksummed` meets its contract.
 -- Assumes nothing.
 use mathlib.Core.Path.{refl}
 use Rattle.protocol.specs.Flags.{checksummed}
-use Rattle.header.proofs.flags.checksummed.Statement.{statement}
-use Rattle.header.proofs.flags.checksummed.Tie as tie
+use Rattle.flags.proofs.checksummed.Statement.{statement}
+use Rattle.flags.proofs.checksummed.Tie as tie
 
 returns : tie.Need-returns
 unfolding checksummed

@@ -1,9 +1,9 @@
--- `header::checksum_size` meets its contract.
+-- `flags::checksum_size` meets its contract.
 -- Assumes nothing.
 use borrow.Author.Needs.{needs}
 use Rattle.protocol.specs.Layout.{checksumSize}
-use Rattle.header.proofs.checksum_size.Statement.{statement}
-use Rattle.header.proofs.checksum_size.Tie as tie
+use Rattle.flags.proofs.checksum_size.Statement.{statement}
+use Rattle.flags.proofs.checksum_size.Tie as tie
 
 returns : tie.Need-returns
 unfolding checksumSize
