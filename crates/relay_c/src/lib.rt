@@ -1,4 +1,6 @@
 // The calls of the library for C and Rust: numbers and slices only. host/relay.h is their manual.
+use interface::edition;
+use interface::refusal;
 use numbers::show;
 use protocol::Edition;
 use protocol::Verdict;
@@ -13,24 +15,7 @@ ghost use Rattle.message.specs.Message.{viewed, output};
 ghost use Rattle.message.specs.Forward.{forward};
 ghost use Rattle.message.specs.Write.{write};
 ghost use Rattle.message.specs.Append.{append};
-ghost use Rattle.relay_c.specs.Interface.{editionOf, withRoom, result, numbers};
-
-fn edition(bits: u32, sequences: u8) -> Edition
-    ensures { λ r. ⌜ r ≡ editionOf bits sequences ⌝ }
-{
-    let known = sequences != 0;
-    Edition {
-        bits,
-        sequences: known,
-    }
-}
-
-// The result of a call that refuses.
-fn refusal(number: u32, place: usize) -> u64
-    ensures { λ r. ⌜ r ≡ number * 2 ^ 32 + place % 2 ^ 32 ⌝ }
-{
-    (number as u64) * 0x1_0000_0000 + (place % 0x1_0000_0000) as u64
-}
+ghost use Rattle.interface.specs.Interface.{editionOf, withRoom, result, numbers};
 
 #[no_mangle]
 pub extern "C" fn relay_read(bits: u32, sequences: u8, message: &[u8], view: &mut [i64]) -> u64

@@ -5,7 +5,7 @@ use Rattle.protocol.specs.Read.{read}
 use Rattle.protocol.proofs.Answered.{answer-refused, answer-accepted}
 use Rattle.relay.proofs.Forwards.{forward-refused}
 use Rattle.numbers.specs.Numbers.{viewSize}
-use Rattle.relay_c.specs.Interface.{result}
+use Rattle.interface.specs.Interface.{result}
 use Rattle.relay_c.proofs.Results.{own-refusal, never-room}
 use Rattle.relay_c.proofs.forward_refused.Statement.{statement}
 use Rattle.relay_c.proofs.forward_refused.Tie as tie

@@ -6,7 +6,7 @@ use borrow.Author.Needs.{needs}
 use Rattle.protocol.specs.Read.{read}
 use Rattle.protocol.proofs.Answered.{answer-refused, answer-accepted}
 use Rattle.numbers.specs.Numbers.{viewSize}
-use Rattle.relay_c.specs.Interface.{result, numbers}
+use Rattle.interface.specs.Interface.{result, numbers}
 use Rattle.relay_c.proofs.Results.{own-refusal, no-room, has-room}
 use Rattle.relay_c.proofs.relay_read.Statement.{statement}
 use Rattle.relay_c.proofs.relay_read.Tie as tie
