@@ -14,7 +14,7 @@ use Rattle.wire.specs.Walk.{Step, step, Reader}
 use Rattle.wire.proofs.Outcome.{ok-same, went, passed, pass, bound, go-on}
 use Rattle.wire.proofs.Walk.{Advances, step-size}
 use Rattle.values.specs.Value.{Value, plain, embedded, scoped}
-use Rattle.bson.specs.Document.{maxElements, Head, head, inside, element, sizeOf, over, elementSize}
+use Rattle.elements.specs.Element.{maxElements, Head, head, inside, element, sizeOf, over, elementSize}
 use Rattle.values.proofs.Value.{Within, type-fits}
 use Rattle.bson.proofs.Steady.{Frames}
 

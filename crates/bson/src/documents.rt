@@ -1,65 +1,20 @@
 // Documents and elements at all levels.
-use crate::ELEMENTS;
 use crate::Walk;
-use values::Found;
-use values::Shape;
-use values::kind_of;
-use values::value_of;
+use elements::Outline;
+use elements::head;
 use wire::under;
-use wire::until_zero;
 use wire::word;
 ghost use mathlib.Core.Path.{_≡_};
 ghost use Prim.Native.Nat.{_+_, _^_, _<_};
 ghost use lib.ListN.{length};
-ghost use Rattle.bson.specs.Document.{told, head, element, frame, documentAt};
-ghost use Rattle.bson.specs.Answers.{outline, Lies, alone, Spans};
-
-// An element but for the documents in it: where its value starts, and what that is; or a refusal's number and place.
-pub(crate) enum Outline {
-    Plain {
-        start: usize,
-        size: usize,
-    },
-    Embedded {
-        start: usize,
-    },
-    Scoped {
-        start: usize,
-        from: usize,
-        size: usize,
-    },
-    Refused(u32, usize),
-}
+ghost use Rattle.elements.specs.Element.{element};
+ghost use Rattle.bson.specs.Document.{told, frame, documentAt};
+ghost use Rattle.bson.specs.Answers.{alone, Spans};
 
 fn refused(number: u32, place: usize) -> Walk
     ensures { λ r. ⌜ r ≡ Walk.Refused number place ⌝ }
 {
     Walk::Refused { number, place }
-}
-
-// The type and the name of an element, and its value but for a document in it.
-pub(crate) fn head(s: &[u8], at: usize, count: u32) -> Outline
-    requires { ⌜ (0 < length (now s)) × (at + length (now s) < 2 ^ 64) ⌝ }
-    ensures is { λ r. ⌜ outline r ≡ head at (now (s .entry)) count ⌝ }
-    ensures inside { λ r. ⌜ Lies (length (now (s .entry))) r ⌝ }
-{
-    if count >= ELEMENTS {
-        return Outline::Refused(21, at);
-    }
-    let Found::Listed(kind) = kind_of(s[0]) else {
-        return Outline::Refused(17, at);
-    };
-    let n = until_zero(&s[1..]);
-    if s.len() <= 1 + n {
-        return Outline::Refused(18, at + 1);
-    }
-    let start = n + 2;
-    match value_of(kind, &s[start..]) {
-        Shape::Plain(size) => Outline::Plain { start, size },
-        Shape::Embedded => Outline::Embedded { start },
-        Shape::Scoped { start: from, size } => Outline::Scoped { start, from, size },
-        Shape::Faulty => Outline::Refused(19, at + start),
-    }
 }
 
 // The length and the last byte of a document.

@@ -13,7 +13,8 @@ use Rattle.wire.proofs.Outcome.{bound, go-on, check-ltb, check-leb, check-eqb, 
 use Rattle.wire.proofs.Bytes.{word-le32}
 use Rattle.wire.proofs.Walk.{walk-done, walk-step}
 use Rattle.values.specs.Value.{sized, boolean, string, binary, regex, pointer, codeWithScope, bytes, embedded, scoped, Rule, table, ruleIn}
-use Rattle.bson.specs.Document.{inside, head, element, documentAt, maxElements}
+use Rattle.elements.specs.Element.{inside, head, element, maxElements}
+use Rattle.bson.specs.Document.{documentAt}
 use Rattle.grammar.specs.Grammar.{_∈_, String, Plain, Document, Elements, Element, Value}
 use Rattle.bson.proofs.Frame.{frame-is}
 use Rattle.grammar.proofs.Texts.{joined, until-ended, string-long, document-long, element-long}

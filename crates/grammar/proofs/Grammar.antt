@@ -10,7 +10,8 @@ use Rattle.wire.specs.Outcome.{ok}
 use Rattle.wire.specs.Bytes.{Bytes, le32, untilZero}
 use Rattle.wire.specs.Walk.{Step, step}
 use Rattle.wire.proofs.Outcome.{ok-same}
-use Rattle.bson.specs.Document.{documentAt, maxLevels, maxElements}
+use Rattle.elements.specs.Element.{maxElements}
+use Rattle.bson.specs.Document.{documentAt, maxLevels}
 use Rattle.grammar.specs.Grammar.{Plain, Document, Elements, Element, Value}
 use Rattle.grammar.specs.Reading.{Read, Exact}
 use Rattle.grammar.proofs.Texts.{zero-ended}

@@ -12,7 +12,8 @@ use Rattle.wire.specs.Bytes.{Bytes, word, le32, untilZero}
 use Rattle.wire.specs.Walk.{Step, step, Reader, walk}
 use Rattle.values.specs.Value.{sized, boolean, string, binary, regex, pointer, codeWithScope, bytes, embedded, Rule, table, ruleIn}
 use Rattle.values.specs.Value as Walked
-use Rattle.bson.specs.Document.{inside, head, element, documentAt, maxElements}
+use Rattle.elements.specs.Element.{inside, head, element, maxElements}
+use Rattle.bson.specs.Document.{documentAt}
 use Rattle.grammar.specs.Grammar.{_∈_, String, Plain, Document, Elements, Element, Value}
 use Rattle.grammar.specs.Reading.{Read}
 use Rattle.wire.proofs.Outcome.{not-ok, ok-same, bound, passed}

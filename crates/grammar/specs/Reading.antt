@@ -8,7 +8,7 @@ use lib.ListN.{length, take}
 use Rattle.wire.specs.Outcome.{ok}
 use Rattle.wire.specs.Bytes.{Bytes}
 use Rattle.wire.specs.Walk.{Step, Reader}
-use Rattle.bson.specs.Document.{maxElements}
+use Rattle.elements.specs.Element.{maxElements}
 
 -- the first r .size bytes of xs are a D that holds so many elements, these are added to the count, and the count stays within the limit
 -- (one that began past the limit grows no more)

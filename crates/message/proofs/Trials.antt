@@ -10,7 +10,8 @@ use Rattle.wire.specs.Outcome.{Outcome, ok, refused, refuse, _>>=_}
 use Rattle.wire.specs.Bytes.{word, wordAt, under, signed, bits32, le32, untilZero, oneOf}
 use Rattle.wire.specs.Walk.{walk}
 use Rattle.values.specs.Value.{sized, cstring, string, binary, boolean, regex, pointer, codeWithScope, table, ruleIn}
-use Rattle.bson.specs.Document.{maxLevels, maxElements, frame, head, inside, element, documentAt, sizeOf, elementSize}
+use Rattle.elements.specs.Element.{maxElements, head, inside, element, sizeOf, elementSize}
+use Rattle.bson.specs.Document.{maxLevels, frame, documentAt}
 use Rattle.protocol.specs.Flags.{common, kept, allKnown, checksummed, knows}
 use Rattle.protocol.specs.Layout.{maxLength, checksumSize, sectionsEnd, sectionBytes, checksumDiffers}
 use Rattle.protocol.specs.Sections.{maxSequences, bodyStart, bodySize, sequencesOf, nextDocument, bodySection, sequenceRun, sequenceSection, sectionOf, sectionAt}

@@ -10,7 +10,7 @@ use lib.ListN.{length, take, drop, replicate, length-drop, length-map, drop-of-l
 use lib.Seq.{drop-drop, take-all, take-nil}
 use borrow.Author.Tests.{ne-eqb}
 use Rattle.wire.specs.Outcome.{ok, refused}
-use Rattle.bson.specs.Document.{elementSize}
+use Rattle.elements.specs.Element.{elementSize}
 use Rattle.protocol.specs.Names.{Name, sameText, among, distinct, elementNames, texts}
 use Rattle.protocol.specs.Answers.{Filled, none, more}
 use Rattle.naming.specs.Answers.{nameText, namesOf, slotOf, Marked, Marks}

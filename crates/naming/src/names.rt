@@ -1,5 +1,5 @@
 // Checks 22 to 24: names that must differ.
-use bson::element_size;
+use elements::element_size;
 use protocol::Sequence;
 use protocol::Verdict;
 use protocol::refused;

@@ -12,7 +12,7 @@ use Rattle.wire.specs.Outcome.{ok}
 use Rattle.wire.specs.Walk.{Reader, walk}
 use Rattle.wire.proofs.Outcome.{passed, pass, bound}
 use Rattle.wire.proofs.Walk.{walk-step}
-use Rattle.bson.specs.Document.{element, elementSize}
+use Rattle.elements.specs.Element.{element, elementSize}
 use Rattle.bson.proofs.Steady.{Frames}
 use Rattle.bson.proofs.Element.{element-advances, element-over}
 use Rattle.protocol.specs.Sections.{Section, bodyStart, bodySize, sequencesOf}

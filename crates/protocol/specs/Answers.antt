@@ -5,7 +5,7 @@ use mathlib.Core.List.{List, []}
 use mathlib.Core.Path.{_≡_}
 use lib.ListN.{drop}
 use Rattle.wire.specs.Outcome.{Outcome, ok, refused}
-use Rattle.bson.specs.Document.{elementSize}
+use Rattle.elements.specs.Element.{elementSize}
 use Rattle.protocol.specs.Sections.{Section, bodyStart, bodySize, sequencesOf}
 use Rattle.protocol.specs.View.{padded}
 use Rattle.protocol.specs.declared.Sequence.{Sequence}

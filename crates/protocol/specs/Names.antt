@@ -7,7 +7,7 @@ use lib.ListN.{length, take, drop}
 use lib.Dec.{eqb}
 use Rattle.wire.specs.Outcome.{Outcome, ok, refuse, _>>=_}
 use Rattle.wire.specs.Bytes.{untilZero}
-use Rattle.bson.specs.Document.{elementSize}
+use Rattle.elements.specs.Element.{elementSize}
 use Rattle.protocol.specs.Sections.{Section, bodyStart, bodySize, sequencesOf}
 use Rattle.protocol.specs.declared.Sequence.{Sequence}
 

@@ -9,7 +9,8 @@ use Rattle.wire.specs.Outcome.{ok}
 use Rattle.wire.specs.Walk.{Step, walk}
 use Rattle.wire.proofs.Outcome.{not-ok, ok-same, went, bound}
 use Rattle.wire.proofs.Walk.{walk-step}
-use Rattle.bson.specs.Document.{frame, element, documentAt}
+use Rattle.elements.specs.Element.{element}
+use Rattle.bson.specs.Document.{frame, documentAt}
 use Rattle.bson.proofs.Frame.{document-framed}
 use Rattle.bson.proofs.Element.{element-advances, element-fits, element-over}
 use Rattle.protocol.specs.Answers.{Filled, none, more}

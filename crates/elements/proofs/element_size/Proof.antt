@@ -1,4 +1,4 @@
--- `bson::element_size` meets its contract: each arm is told what the element is but for its documents. Where there is no byte, there is no element.
+-- `elements::element_size` meets its contract: each arm is told what the element is but for its documents. Where there is no byte, there is no element.
 -- Assumes nothing.
 use Prim.Native.Nat.{ℕ}
 use native.Mathlib.Omega.{arith}
@@ -11,9 +11,9 @@ use Rattle.wire.specs.Outcome.{refuse, _>>=_}
 use Rattle.wire.specs.Bytes.{oneOf}
 use Rattle.wire.proofs.Parts.{rest-part}
 use Rattle.values.specs.Value.{table, ruleIn}
-use Rattle.bson.specs.Document.{elementSize, sizeOf, inside, head, element, maxElements}
-use Rattle.bson.proofs.element_size.Statement.{statement}
-use Rattle.bson.proofs.element_size.Tie as tie
+use Rattle.elements.specs.Element.{elementSize, sizeOf, inside, head, element, maxElements}
+use Rattle.elements.proofs.element_size.Statement.{statement}
+use Rattle.elements.proofs.element_size.Tie as tie
 
 none : (xs : List ℕ) → length xs ≡ 0 → elementSize xs ≡ 0
 unfolding elementSize sizeOf element head maxElements table ruleIn oneOf _>>=_ refuse

@@ -1,4 +1,4 @@
--- `bson::documents::head` meets its contract: each way out has its tests, and what the type and the value are.
+-- `elements::head` meets its contract: each way out has its tests, and what the type and the value are.
 -- Assumes nothing.
 use borrow.Author.Needs.{needs}
 use native.Mathlib.Omega.{arith}
@@ -8,9 +8,9 @@ use lib.ListN.{length, take, drop}
 use Rattle.wire.proofs.Bytes.{until-le}
 use Rattle.wire.proofs.Parts.{rest-part}
 use Rattle.wire.specs.Outcome.{refuse, _>>=_}
-use Rattle.bson.specs.Document.{head, maxElements}
-use Rattle.bson.proofs.documents.head.Statement.{statement}
-use Rattle.bson.proofs.documents.head.Tie as tie
+use Rattle.elements.specs.Element.{head, maxElements}
+use Rattle.elements.proofs.head.Statement.{statement}
+use Rattle.elements.proofs.head.Tie as tie
 
 returns : tie.Need-returns
 unfolding head maxElements _>>=_ refuse

@@ -1,0 +1,79 @@
+// Elements, but for the documents in them.
+use values::Found;
+use values::Shape;
+use values::kind_of;
+use values::value_of;
+use wire::until_zero;
+use wire::word;
+ghost use mathlib.Core.Path.{_≡_};
+ghost use Prim.Native.Nat.{_+_, _^_, _<_};
+ghost use lib.ListN.{length};
+ghost use Rattle.elements.specs.Element.{head, elementSize};
+ghost use Rattle.elements.specs.Answers.{outline, Lies};
+
+// The most elements of a message.
+pub const ELEMENTS: u32 = 4096;
+
+// An element but for the documents in it: where its value starts, and what that is; or a refusal's number and place.
+pub enum Outline {
+    Plain {
+        start: usize,
+        size: usize,
+    },
+    Embedded {
+        start: usize,
+    },
+    Scoped {
+        start: usize,
+        from: usize,
+        size: usize,
+    },
+    Refused(u32, usize),
+}
+
+// The type and the name of an element, and its value but for a document in it.
+pub fn head(s: &[u8], at: usize, count: u32) -> Outline
+    requires { ⌜ (0 < length (now s)) × (at + length (now s) < 2 ^ 64) ⌝ }
+    ensures is { λ r. ⌜ outline r ≡ head at (now (s .entry)) count ⌝ }
+    ensures inside { λ r. ⌜ Lies (length (now (s .entry))) r ⌝ }
+{
+    if count >= ELEMENTS {
+        return Outline::Refused(21, at);
+    }
+    let Found::Listed(kind) = kind_of(s[0]) else {
+        return Outline::Refused(17, at);
+    };
+    let n = until_zero(&s[1..]);
+    if s.len() <= 1 + n {
+        return Outline::Refused(18, at + 1);
+    }
+    let start = n + 2;
+    match value_of(kind, &s[start..]) {
+        Shape::Plain(size) => Outline::Plain { start, size },
+        Shape::Embedded => Outline::Embedded { start },
+        Shape::Scoped { start: from, size } => Outline::Scoped { start, from, size },
+        Shape::Faulty => Outline::Refused(19, at + start),
+    }
+}
+
+// How many bytes the element at the start of s takes, in a document that was read: a document in it is passed over by its length.
+pub fn element_size(s: &[u8]) -> usize
+    ensures { λ r. ⌜ r ≡ elementSize (now (s .entry)) ⌝ }
+{
+    if s.len() == 0 {
+        return 0;
+    }
+    match head(s, 0, 0) {
+        Outline::Plain { start, size } => start + size,
+        Outline::Embedded { start } => start + word(&s[start..]) as usize,
+        Outline::Scoped { start, from, size } => {
+            let rest = &s[start..];
+            if from + word(&rest[from..size]) as usize == size {
+                start + size
+            } else {
+                0
+            }
+        }
+        Outline::Refused(_, _) => 0,
+    }
+}
