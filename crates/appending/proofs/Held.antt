@@ -23,7 +23,7 @@ use Rattle.protocol.proofs.Accepted.{reads}
 use Rattle.protocol.proofs.Differ.{Within, within-more, within-append}
 use Rattle.protocol.proofs.Section.{entryAt, SectionRead, a-body, a-sequence, section-read, section-steady}
 use Rattle.protocol.proofs.Shown.{Started, started-append, body-behind}
-use Rattle.sections.proofs.Fill.{document-filled}
+use Rattle.documents.proofs.Fill.{document-filled}
 use Rattle.sections.proofs.Gather.{body-stays, sequences-stay, sequences-more}
 
 -- sections in the first i bytes of xs

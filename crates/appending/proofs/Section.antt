@@ -25,7 +25,7 @@ use Rattle.protocol.proofs.Differ.{front-part, front-identifiers}
 use Rattle.message.specs.Append.{sequenceBytes}
 use Rattle.naming.proofs.Texts.{among-append, among-last}
 use Rattle.sections.proofs.Gather.{body-stays, sequences-more}
-use Rattle.sections.proofs.Turns.{run-turns}
+use Rattle.documents.proofs.Turns.{run-turns}
 use Rattle.storing.proofs.Size.{sizeOf, bytes-length}
 use Rattle.appending.specs.Grown.{entry}
 use Rattle.appending.proofs.Held.{Held}

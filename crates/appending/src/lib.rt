@@ -2,6 +2,7 @@
 mod checks;
 
 use checks::checks;
+use documents::Run;
 use flags::checksum_size;
 use naming::names::taken;
 use opmsg::answer::refusal;
@@ -10,7 +11,6 @@ use protocol::Reading;
 use protocol::Sequence;
 use protocol::Verdict;
 use protocol::View;
-use sections::Run;
 ghost use mathlib.Core.Path.{_≡_};
 ghost use mathlib.Core.List.{List, _++_};
 ghost use Prim.Native.Nat.{_+_, _-_, _^_, _<_, _≤_};
@@ -105,7 +105,7 @@ fn examine(e: Edition, s: &[u8], v: View, identifier: &[u8], documents: &[u8], r
         return Found::Refused { number, place };
     }
     let at = end + (identifier.len() + 6);
-    match sections::documents(documents, at as u32, v.elements) {
+    match documents::documents(documents, at as u32, v.elements) {
         Run::Past {
             documents: number,
             elements,

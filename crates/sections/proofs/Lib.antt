@@ -1,3 +1,2 @@
-pub mod Fill
-pub mod Turns
+pub mod Reached
 pub mod Gather

@@ -7,20 +7,13 @@ use lib.ListN.{take, drop}
 use Rattle.wire.specs.Outcome.{Outcome, ok, refused}
 use Rattle.wire.specs.Walk.{Step, walk}
 use Rattle.protocol.specs.Sections.{maxSequences, body, sequence, bodyStart, sequencesOf, Parts, nothing, behind, sectionAt}
-use Rattle.protocol.specs.Sections as Sections
 use Rattle.protocol.specs.Names.{part}
 use Rattle.protocol.specs.declared.Edition.{Edition}
 use Rattle.protocol.specs.declared.Verdict.{Verdict}
-use Rattle.sections.specs.declared.Run.{Run}
 use Rattle.sections.specs.declared.Part.{Part}
 use Rattle.sections.specs.declared.Content.{Content}
 use Rattle.protocol.specs.declared.Verdict.the-variants.{Accepted, Refused}
 use Rattle.protocol.specs.Answers.{Shows, Filled}
-
--- documents back to back
-abbrev pub ran : Run → Outcome Sections.Run
-ran (Run.Past documents elements) = ok (record { documents = documents; elements = elements })
-ran (Run.Refused number place) = refused number place
 
 -- a section at a place, behind those passed
 abbrev pub partOf : ℕ → Parts → Part → Outcome (Step Parts)

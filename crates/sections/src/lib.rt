@@ -1,5 +1,7 @@
 // Checks 10 to 21: the sections of a message, from left to right. A slice starts at the place `at` of the message, and ends below 2 ^ 31.
 use bson::Walk;
+use documents::Run;
+use documents::documents;
 use protocol::Edition;
 use protocol::Sequence;
 use protocol::Verdict;
@@ -9,19 +11,12 @@ use wire::word;
 ghost use mathlib.Core.Path.{_≡_};
 ghost use Prim.Native.Nat.{ℕ, _+_, _^_, _<_, _≤_};
 ghost use lib.ListN.{length};
-ghost use Rattle.wire.specs.Walk.{walk};
-ghost use Rattle.protocol.specs.Sections.{Parts, nextDocument, bodySection, sequenceRun, sequenceSection, sectionAt};
+ghost use Rattle.protocol.specs.Sections.{Parts, bodySection, sequenceRun, sequenceSection, sectionAt};
 ghost use Rattle.protocol.specs.View.{noSequence};
-ghost use Rattle.sections.specs.Answers.{ran, partOf, Reaches, Carries, Listed};
+ghost use Rattle.sections.specs.Answers.{partOf, Reaches, Carries, Listed};
 
 // The most sequences of a message.
 pub const SEQUENCES: usize = 16;
-
-// Documents back to back: their number and the elements counted by now, or a refusal.
-pub enum Run {
-    Past { documents: u32, elements: u32 },
-    Refused { number: u32, place: usize },
-}
 
 // What a section adds to those before it: a body of `size` bytes behind the kind byte, or a sequence whose section has `size` bytes;
 // and the elements counted by now. Or a refusal.
@@ -55,35 +50,6 @@ fn refused(number: u32, place: usize) -> Part
     ensures { λ r. ⌜ r ≡ Part.Refused number place ⌝ }
 {
     Part::Refused { number, place }
-}
-
-// Documents that fill s.
-pub fn documents(s: &[u8], at: u32, count: u32) -> Run
-    requires { ⌜ at + length (now s) < 2 ^ 31 ⌝ }
-    ensures { λ r. ⌜ ((turns : ℕ) → length (now (s .entry)) ≤ turns → ran r ≡ walk nextDocument turns at (now (s .entry)) (record { documents = 0; elements = count })) ⌝ }
-{
-    let mut i: u32 = 0;
-    let mut number: u32 = 0;
-    let mut elements = count;
-    let end = s.len() as u32;
-    while i < end {
-        let from = i as usize;
-        let w = bson::document(&s[from..], at + i, elements);
-        match w {
-            Walk::Past { size, count: more } => {
-                i += size as u32;
-                number = 1 + number;
-                elements = more;
-            }
-            Walk::Refused { number: n, place } => {
-                return Run::Refused { number: n, place };
-            }
-        }
-    }
-    Run::Past {
-        documents: number,
-        elements,
-    }
 }
 
 // Kind 0; xs begins with the kind byte. `start` is that of a body passed before, or 0.

@@ -14,7 +14,7 @@ use Rattle.protocol.specs.Answers.{judged, Filled}
 use Rattle.naming.specs.Answers.{Surveyed}
 use Rattle.naming.specs.declared.names.Survey.{Survey}
 use Rattle.naming.proofs.Elements.{names-turns}
-use Rattle.sections.proofs.Fill.{document-filled}
+use Rattle.documents.proofs.Fill.{document-filled}
 use Rattle.writing.specs.Answers.{examined}
 
 module _ (s : List ℕ) (w : Walk) (is : told w ≡ documentAt maxLevels 21 s 0) where

@@ -6,7 +6,7 @@ use borrow.Author.Needs.{needs}
 use Rattle.protocol.specs.Sections.{maxSequences}
 use Rattle.protocol.specs.Answers.{judged}
 use Rattle.protocol.proofs.Limits.{maxLength-small}
-use Rattle.sections.specs.Answers.{ran}
+use Rattle.documents.specs.Answers.{ran}
 use Rattle.appending.specs.Grown.{Ready}
 use Rattle.appending.proofs.Appending.{allows}
 use Rattle.appending.proofs.Answers.{checksum-within, end-of, checks-refuse, documents-refuse, ready-allowed, ready-low, ready-inside, ready-filled, ready-body, ready-taken, ready-grown}

@@ -5,7 +5,7 @@ use borrow.Author.Tests.{lt-ltb, le-ltb}
 use Rattle.wire.specs.Outcome.{refuse, _>>=_}
 use Rattle.wire.proofs.Parts.{rest-part}
 use Rattle.protocol.specs.Sections.{bodySection}
-use Rattle.sections.proofs.Turns.{body-reaches}
+use Rattle.sections.proofs.Reached.{body-reaches}
 use Rattle.sections.proofs.body_section.Statement.{statement}
 use Rattle.sections.proofs.body_section.Tie as tie
 

@@ -6,7 +6,7 @@ use lib.ListN.{length-take}
 use borrow.Author.Needs.{needs}
 use Rattle.wire.specs.Outcome.{_>>=_}
 use Rattle.bson.proofs.Frame.{Framed}
-use Rattle.sections.proofs.Turns.{past-framed}
+use Rattle.documents.proofs.Turns.{past-framed}
 use Rattle.writing.proofs.Examined.{body-refused, body-filled, body-named}
 use Rattle.writing.proofs.examine.Statement.{statement}
 use Rattle.writing.proofs.examine.Tie as tie

@@ -1,23 +1,18 @@
--- What a step of the code's loops makes of the definitions: a document of a run, and a section behind those passed.
+-- What a step of the loop over documents makes of the definitions, and that a run does not go by its turns.
 -- Assumes nothing.
-use Prim.Native.Nat.{ℕ, _+_, _-_, _≤_}
+use Prim.Native.Nat.{ℕ, _+_, _≤_}
 use mathlib.Core.Path.{_≡_, sym, ap, _∙_}
 use mathlib.Core.List.{List}
 use native.Mathlib.Omega.{arith}
-use lib.ListN.{length, take, drop, length-take, length-drop}
-use lib.Seq.{drop-drop}
+use lib.ListN.{length}
 use Rattle.wire.specs.Outcome.{refused}
 use Rattle.wire.specs.Walk.{Step, step, walk}
 use Rattle.wire.proofs.Outcome.{ok-same, bound, go-on, halt}
-use Rattle.wire.proofs.Parts.{rest-part}
 use Rattle.wire.proofs.Walk.{Advances, walk-turns}
 use Rattle.bson.specs.Document.{documentAt, maxLevels, told}
 use Rattle.bson.specs.declared.Walk.{Walk}
 use Rattle.bson.proofs.Frame.{Framed, document-framed}
 use Rattle.protocol.specs.Sections.{Run, nextDocument}
-use Rattle.sections.specs.Answers.{Reaches}
-use Rattle.sections.specs.declared.Part.{Part}
-use Rattle.sections.proofs.Fill.{document-filled}
 
 abbrev pub runOf : ℕ → ℕ → Run
 runOf documents elements = record { documents = documents; elements = elements }
@@ -44,11 +39,3 @@ document-advances at xs run one h =
 -- a run of documents does not go by the turns
 pub run-turns : (m n at : ℕ) (xs : List ℕ) (run : Run) → length xs ≤ m → length xs ≤ n → walk nextDocument m at xs run ≡ walk nextDocument n at xs run
 run-turns = walk-turns nextDocument document-advances
-
--- what a document that was passed behind a kind byte reaches
-pub body-reaches : (at : ℕ) (xs : List ℕ) (count size more : ℕ) (w : Walk) → told w ≡ documentAt maxLevels at (take (length xs - 1) (drop 1 xs)) count → w ≡ Walk.Past size more
-    → Reaches xs (Part.Body size more)
-body-reaches at xs count size more w e h =
-    let f = past-framed at _ count w e h in
-    let k = document-filled maxLevels at _ count (record { size = size; state = more }) (sym e ∙ ap told h) in
-    (f .low, omega (arith, f .low, f .fits, length-take (length xs - 1) (drop 1 xs), length-drop 1 xs), rw (rest-part 1 xs, drop-drop 4 1 xs) at k)

@@ -1,4 +1,4 @@
--- `sections::documents` meets its contract. The loop's invariant: what the definition says from the start is what it says from
+-- `documents::documents` meets its contract. The loop's invariant: what the definition says from the start is what it says from
 -- byte i on, in some number of turns that is enough. Assumes nothing.
 use Prim.Native.Nat.{ℕ, _+_, _-_, _≤_}
 use mathlib.Core.Path.{_≡_, sym, _∙_}
@@ -10,9 +10,9 @@ use borrow.Author.Needs.{needs}
 use Rattle.wire.specs.Walk.{walk}
 use Rattle.wire.proofs.Walk.{ends, goes-on, stops}
 use Rattle.protocol.specs.Sections.{nextDocument}
-use Rattle.sections.proofs.Turns.{runOf, past-framed, next-past, next-refused, run-turns}
-use Rattle.sections.proofs.documents.Statement.{statement}
-use Rattle.sections.proofs.documents.Tie as tie
+use Rattle.documents.proofs.Turns.{runOf, past-framed, next-past, next-refused, run-turns}
+use Rattle.documents.proofs.documents.Statement.{statement}
+use Rattle.documents.proofs.documents.Tie as tie
 
 abbrev Inv-loop : tie.InvT-loop
 Inv-loop s at count i₀ number₀ elements₀ end i number elements =
