@@ -12,7 +12,7 @@ pub(crate) fn number(out: &mut [u8; 256], at: usize, n: u64, last: u8) -> usize
 {
     let mut text = [0u8; 20];
     let k = io::decimal(n, &mut text);
-    wire::put(out, at, &text[..k]);
+    put::put(out, at, &text[..k]);
     let end = at + k;
     out[end] = last;
     end + 1
@@ -28,6 +28,6 @@ pub(crate) fn signed(out: &mut [u8; 256], at: usize, x: i32, last: u8) -> usize
     if w < 0x8000_0000 {
         return number(out, at, w, last);
     }
-    wire::put(out, at, b"-");
+    put::put(out, at, b"-");
     number(out, at + 1, 0x1_0000_0000 - w, last)
 }

@@ -26,7 +26,7 @@ pub fn first_line(out: &mut [u8; 256]) -> usize
     ensures { λ r. ⌜ Written firstLine (now (out .entry)) (now (out .exit)) r ⌝ }
     ensures { λ r. ⌜ Counts r (now (out .exit)) ⌝ }
 {
-    wire::put(out, 0, b"relay-log\t");
+    put::put(out, 0, b"relay-log\t");
     number(out, 10, 1, NEWLINE)
 }
 
@@ -35,7 +35,7 @@ pub fn message_line(out: &mut [u8; 256], offset: u64, m: Summary) -> usize
     ensures { λ r. ⌜ Written (messageLine offset m) (now (out .entry)) (now (out .exit)) r ⌝ }
     ensures { λ r. ⌜ Counts r (now (out .exit)) ⌝ }
 {
-    wire::put(out, 0, b"msg\t");
+    put::put(out, 0, b"msg\t");
     let at = number(out, 4, offset, TAB);
     let at = number(out, at, m.length as u64, TAB);
     let at = signed(out, at, m.request_id, TAB);
@@ -50,7 +50,7 @@ pub fn bad_line(out: &mut [u8; 256], offset: u64, refusal: u32, place: usize) ->
     ensures { λ r. ⌜ Written (badLine offset refusal place) (now (out .entry)) (now (out .exit)) r ⌝ }
     ensures { λ r. ⌜ Counts r (now (out .exit)) ⌝ }
 {
-    wire::put(out, 0, b"bad\t");
+    put::put(out, 0, b"bad\t");
     let at = number(out, 4, offset, TAB);
     let at = number(out, at, refusal as u64, TAB);
     number(out, at, place as u64, NEWLINE)
@@ -61,6 +61,6 @@ pub fn end_line(out: &mut [u8; 256], messages: u64) -> usize
     ensures { λ r. ⌜ Written (endLine messages) (now (out .entry)) (now (out .exit)) r ⌝ }
     ensures { λ r. ⌜ Counts r (now (out .exit)) ⌝ }
 {
-    wire::put(out, 0, b"end\t");
+    put::put(out, 0, b"end\t");
     number(out, 4, messages, NEWLINE)
 }

@@ -2,8 +2,8 @@
 use flags::checksum_size;
 use flags::checksummed;
 use wire::bits32;
-use wire::put;
-use wire::put_word;
+use put::put;
+use put::put_word;
 ghost use mathlib.Core.List.{_∷_, _++_};
 ghost use mathlib.Core.Path.{_≡_};
 ghost use Prim.Native.Nat.{_+_, _-_, _^_, _<_, _≤_};

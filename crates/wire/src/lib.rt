@@ -2,7 +2,7 @@
 ghost use mathlib.Core.Path.{_≡_};
 ghost use Prim.Native.Nat.{_<_};
 ghost use lib.ListN.{getD};
-ghost use Rattle.wire.specs.Bytes.{word, under, signed, bits32, le32, put, untilZero};
+ghost use Rattle.wire.specs.Bytes.{word, under, signed, bits32, untilZero};
 
 // The byte at place i; 0 past the end.
 fn byte(s: &[u8], i: usize) -> u32
@@ -41,35 +41,6 @@ pub fn bits32(x: i32) -> u32
     ensures { λ r. ⌜ r ≡ bits32 x ⌝ }
 {
     if x < 0 { !((!x) as u32) } else { x as u32 }
-}
-
-// Stores the bytes s at a place, where they fit; else nothing changes.
-pub fn put(out: &mut [u8], at: usize, s: &[u8])
-    ensures { λ _. ⌜ now (out .exit) ≡ put at (now (s .entry)) (now (out .entry)) ⌝ }
-{
-    if out.len() < s.len() {
-        return;
-    }
-    if out.len() - s.len() < at {
-        return;
-    }
-    bytes::copy(s, &mut out[at..]);
-}
-
-// Stores the four bytes of w at a place, where they fit; else nothing changes.
-pub fn put_word(out: &mut [u8], at: usize, w: u32)
-    ensures { λ _. ⌜ now (out .exit) ≡ put at (le32 w) (now (out .entry)) ⌝ }
-{
-    if out.len() < 4 {
-        return;
-    }
-    if out.len() - 4 < at {
-        return;
-    }
-    out[at] = (w % 256) as u8;
-    out[at + 1] = (w / 0x100 % 256) as u8;
-    out[at + 2] = (w / 0x1_0000 % 256) as u8;
-    out[at + 3] = (w / 0x100_0000 % 256) as u8;
 }
 
 // How many bytes stand before the first zero byte; all where there is none.

@@ -1,13 +1,13 @@
--- `wire::put_word` meets its contract: where the four bytes fit, they are stored one after the other.
+-- `put::put_word` meets its contract: where the four bytes fit, they are stored one after the other.
 -- Assumes nothing.
 use mathlib.Core.Path.{sym}
 use native.Mathlib.Omega.{arith}
 use lib.ListN.{length-set}
 use borrow.Author.Needs.{needs}
 use Rattle.wire.specs.Bytes.{le32}
 use Rattle.wire.proofs.Parts.{put-too-long, put-four}
-use Rattle.wire.proofs.put_word.Statement.{statement}
-use Rattle.wire.proofs.put_word.Tie as tie
+use Rattle.put.proofs.put_word.Statement.{statement}
+use Rattle.put.proofs.put_word.Tie as tie
 
 returns : tie.Need-returns
 unfolding le32

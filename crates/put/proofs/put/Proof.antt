@@ -1,11 +1,11 @@
--- `wire::put` meets its contract: where the bytes fit, they are copied into the part from there on.
+-- `put::put` meets its contract: where the bytes fit, they are copied into the part from there on.
 -- Assumes nothing.
 use mathlib.Core.Path.{sym}
 use native.Mathlib.Omega.{arith}
 use borrow.Author.Needs.{needs}
 use Rattle.wire.proofs.Parts.{put-too-long, put-part}
-use Rattle.wire.proofs.put.Statement.{statement}
-use Rattle.wire.proofs.put.Tie as tie
+use Rattle.put.proofs.put.Statement.{statement}
+use Rattle.put.proofs.put.Tie as tie
 
 returns : tie.Need-returns
 returns c = sym (put-too-long _ _ _ (omega arith))
