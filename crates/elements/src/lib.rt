@@ -2,11 +2,12 @@
 use values::Found;
 use values::Shape;
 use values::kind_of;
+use values::skip;
+use values::unlisted;
 use values::value_of;
 use wire::until_zero;
-use wire::word;
 ghost use mathlib.Core.Path.{_≡_};
-ghost use Prim.Native.Nat.{_+_, _^_, _<_};
+ghost use Prim.Native.Nat.{_+_, _^_, _<_, _≤_};
 ghost use lib.ListN.{length};
 ghost use Rattle.elements.specs.Element.{head, elementSize};
 ghost use Rattle.elements.specs.Answers.{outline, Lies};
@@ -40,14 +41,18 @@ pub fn head(s: &[u8], at: usize, count: u32) -> Outline
     if count >= ELEMENTS {
         return Outline::Refused(21, at);
     }
-    let Found::Listed(kind) = kind_of(s[0]) else {
+    let t = s[0];
+    if unlisted(t) {
         return Outline::Refused(17, at);
-    };
+    }
     let n = until_zero(&s[1..]);
     if s.len() <= 1 + n {
         return Outline::Refused(18, at + 1);
     }
     let start = n + 2;
+    let Found::Listed(kind) = kind_of(t) else {
+        return Outline::Refused(17, at);
+    };
     match value_of(kind, &s[start..]) {
         Shape::Plain(size) => Outline::Plain { start, size },
         Shape::Embedded => Outline::Embedded { start },
@@ -56,24 +61,24 @@ pub fn head(s: &[u8], at: usize, count: u32) -> Outline
     }
 }
 
-// How many bytes the element at the start of s takes, in a document that was read: a document in it is passed over by its length.
+// How many bytes the element at the start of s takes, in a document that was read: it is not checked again, and a document in it is passed over by its length.
 pub fn element_size(s: &[u8]) -> usize
-    ensures { λ r. ⌜ r ≡ elementSize (now (s .entry)) ⌝ }
+    ensures { λ r. ⌜ (0 < elementSize (now (s .entry)) → elementSize (now (s .entry)) ≤ length (now (s .entry)) → r ≡ elementSize (now (s .entry))) ⌝ }
 {
     if s.len() == 0 {
         return 0;
     }
-    match head(s, 0, 0) {
-        Outline::Plain { start, size } => start + size,
-        Outline::Embedded { start } => start + word(&s[start..]) as usize,
-        Outline::Scoped { start, from, size } => {
-            let rest = &s[start..];
-            if from + word(&rest[from..size]) as usize == size {
-                start + size
-            } else {
-                0
-            }
-        }
-        Outline::Refused(_, _) => 0,
+    let n = until_zero(&s[1..]);
+    if s.len() <= 1 + n {
+        return 0;
     }
+    let start = n + 2;
+    let Found::Listed(kind) = kind_of(s[0]) else {
+        return 0;
+    };
+    let size = skip(kind, &s[start..]);
+    if s.len() - start < size {
+        return 0;
+    }
+    start + size
 }

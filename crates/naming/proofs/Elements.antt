@@ -93,6 +93,10 @@ module _ (xs : List ℕ) (i turns : ℕ) (r : Reached xs i turns) where
     some : 0 < length (drop i xs)
     some = rw (length-drop i xs) (omega arith)
 
+    -- the element at place i was read
+    pub reached-size : (0 < elementSize (drop i xs)) × (elementSize (drop i xs) ≤ length (drop i xs))
+    reached-size = let p = filled-next (r .filled) some in (p .0, p .1)
+
     reached-names : (at size : ℕ) → size ≡ elementSize (drop i xs)
         → elementNames turns at (drop i xs) ≡ nameAt at (drop i xs) ∷ elementNames (turns - 1) (at + size) (drop (i + size) xs)
     reached-names at size e = names-next turns at (drop i xs) (omega (arith, r .enough)) some ∙ rw (← e, drop-drop size i xs)

@@ -1,9 +1,9 @@
 // The bytes of a message, stored from left to right once all is decided.
 use flags::checksum_size;
 use flags::checksummed;
-use wire::bits32;
 use put::put;
 use put::put_word;
+use wire::bits32;
 ghost use mathlib.Core.List.{_∷_, _++_};
 ghost use mathlib.Core.Path.{_≡_};
 ghost use Prim.Native.Nat.{_+_, _-_, _^_, _<_, _≤_};

@@ -3,10 +3,11 @@ use wire::under;
 use wire::until_zero;
 use wire::word;
 ghost use mathlib.Core.Path.{_≡_};
-ghost use Prim.Native.Nat.{ℕ};
+ghost use Prim.Native.Nat.{ℕ, _<_};
 ghost use lib.ListN.{length};
-ghost use Rattle.values.specs.Value.{sized, boolean, cstring, string, binary, regex, pointer, codeWithScope, bytes, table, ruleIn};
-ghost use Rattle.values.specs.Answers.{extent, Within, shape, Inside, ruleOf, listed};
+ghost use Rattle.wire.specs.Outcome.{ok};
+ghost use Rattle.values.specs.Value.{Value, sized, boolean, cstring, string, binary, regex, pointer, codeWithScope, bytes, table, ruleIn};
+ghost use Rattle.values.specs.Answers.{extent, Within, shape, Inside, ruleOf, listed, Unlisted, span};
 
 // How many bytes something takes; or it breaks its rule.
 pub enum Extent {
@@ -40,17 +41,49 @@ pub enum Found {
     Unlisted,
 }
 
+// The type t stands in no row.
+pub fn unlisted(t: u8) -> bool
+    ensures { λ r. ⌜ Unlisted t r ⌝ }
+{
+    if t == 0 {
+        return true;
+    }
+    if t <= 0x13 {
+        return false;
+    }
+    if t == 0x7F {
+        return false;
+    }
+    if t == 0xFF {
+        return false;
+    }
+    true
+}
+
+// The row of a type above 0x13: the keys.
+fn key(t: u8) -> Found
+    ensures { λ r. ⌜ (0x13 < t → (at : ℕ) → listed at r ≡ ruleIn table at t) ⌝ }
+{
+    match t {
+        0x7F | 0xFF => Found::Listed(Kind::Bytes(0)),
+        _ => Found::Unlisted,
+    }
+}
+
 // The row in which the type t stands.
 pub fn kind_of(t: u8) -> Found
     ensures { λ r. ⌜ ((at : ℕ) → listed at r ≡ ruleIn table at t) ⌝ }
 {
+    if 0x13 < t {
+        return key(t);
+    }
     match t {
         0x01 | 0x09 | 0x11 | 0x12 => Found::Listed(Kind::Bytes(8)),
         0x10 => Found::Listed(Kind::Bytes(4)),
         0x13 => Found::Listed(Kind::Bytes(16)),
         0x07 => Found::Listed(Kind::Bytes(12)),
         0x08 => Found::Listed(Kind::Boolean),
-        0x06 | 0x0A | 0x7F | 0xFF => Found::Listed(Kind::Bytes(0)),
+        0x06 | 0x0A => Found::Listed(Kind::Bytes(0)),
         0x02 | 0x0D | 0x0E => Found::Listed(Kind::String),
         0x05 => Found::Listed(Kind::Binary),
         0x0B => Found::Listed(Kind::Regex),
@@ -217,5 +250,31 @@ pub fn value_of(k: Kind, s: &[u8]) -> Shape
         Kind::Pointer => plain(pointer(s)),
         Kind::Embedded => Shape::Embedded,
         Kind::Code => code_with_scope(s),
+    }
+}
+
+// The bytes of something that keeps its rule.
+fn taken(e: Extent) -> usize
+    ensures { λ r. ⌜ ((v n : ℕ) → extent v e ≡ ok n → r ≡ n) ⌝ }
+{
+    match e {
+        Extent::Takes(n) => n,
+        Extent::Broken => 0,
+    }
+}
+
+// How many bytes a value of some kind takes, where it keeps its rule.
+pub fn skip(k: Kind, s: &[u8]) -> usize
+    ensures { λ r. ⌜ ((v : ℕ) (x : Value) → ruleOf k v (now (s .entry)) ≡ ok x → r ≡ span (now (s .entry)) x) ⌝ }
+{
+    match k {
+        Kind::Bytes(n) => n,
+        Kind::Boolean => 1,
+        Kind::String => 4 + word(s) as usize,
+        Kind::Binary => 5 + word(s) as usize,
+        Kind::Regex => taken(regex(s)),
+        Kind::Pointer => 16 + word(s) as usize,
+        Kind::Embedded => word(s) as usize,
+        Kind::Code => word(s) as usize,
     }
 }

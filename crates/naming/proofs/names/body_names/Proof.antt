@@ -12,7 +12,7 @@ use Rattle.wire.proofs.Parts.{rest-part}
 use Rattle.protocol.specs.Names.{among}
 use Rattle.naming.specs.Answers.{nameText, namesOf, slotOf}
 use Rattle.naming.proofs.Distinct.{slot-small, not-accepted}
-use Rattle.naming.proofs.Elements.{reached-next, Listed, listed-none, listed-unmarked, listed-again, listed-next, listed-all, listed-marks}
+use Rattle.naming.proofs.Elements.{reached-size, reached-next, Listed, listed-none, listed-unmarked, listed-again, listed-next, listed-all, listed-marks}
 use Rattle.naming.proofs.names.body_names.Statement.{statement}
 use Rattle.naming.proofs.names.body_names.Tie as tie
 
@@ -26,8 +26,10 @@ size-is : (c : tie.After-element-size Inv-loop μ-loop) →
     let l = c .before .before .before .before .before .before .before in
     c .element-size .result ≡ elementSize (drop (l .loop .i) (l .before .before .args .xs .now))
 size-is c =
-    let l = c .before .before .before .before .before .before .before in
-    rw (rest-part (l .loop .i) (l .before .before .args .xs .now)) at (c .element-size .ensures)
+    let t = c .before .before .before .before .before .before in
+    let l = t .before in
+    let s = reached-size _ _ _ (l .loop .inv .reached) (t .loop-test .taken) in
+    (rw (rest-part (l .loop .i) (l .before .before .args .xs .now)) at (c .element-size .ensures)) (s .0) (s .1)
 
 name-is : (c : tie.After-slot Inv-loop μ-loop) →
     let l = c .before .before .before .before in

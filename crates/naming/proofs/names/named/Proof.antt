@@ -10,7 +10,7 @@ use Rattle.elements.specs.Element.{elementSize}
 use Rattle.wire.proofs.Parts.{rest-part}
 use Rattle.protocol.specs.Names.{sameText}
 use Rattle.naming.specs.Answers.{nameText}
-use Rattle.naming.proofs.Elements.{Sought, reached-next, sought-none, sought-end, sought-all, sought-found, sought-next}
+use Rattle.naming.proofs.Elements.{Sought, reached-size, reached-next, sought-none, sought-end, sought-all, sought-found, sought-next}
 use Rattle.naming.proofs.names.named.Statement.{statement}
 use Rattle.naming.proofs.names.named.Tie as tie
 
@@ -24,8 +24,10 @@ size-is : (c : tie.After-element-size Inv-loop μ-loop) →
     let l = c .before .before .before .before .before .before .before in
     c .element-size .result ≡ elementSize (drop (l .loop .i) (l .before .before .before .args .xs .now))
 size-is c =
-    let l = c .before .before .before .before .before .before .before in
-    rw (rest-part (l .loop .i) (l .before .before .before .args .xs .now)) at (c .element-size .ensures)
+    let t = c .before .before .before .before .before .before in
+    let l = t .before in
+    let s = reached-size _ _ _ (l .loop .inv .reached) (t .loop-test .taken) in
+    (rw (rest-part (l .loop .i) (l .before .before .before .args .xs .now)) at (c .element-size .ensures)) (s .0) (s .1)
 
 loop-holds : tie.Need-loop-holds Inv-loop μ-loop
 loop-holds c = sought-none _ _ _ (c .before .before .pre)
