@@ -1,24 +1,24 @@
 -- The message with a front of its sections: it is what writing gives for the body alone, and what appending gives with one section more.
 -- Assumes nothing.
-use Prim.Native.Nat.{ℕ, _+_, _-_, _^_, _<_, _≤_}
-use mathlib.Core.Bool.{Bool, true, false}
-use mathlib.Core.Path.{_≡_, refl, sym, ap, _∙_}
-use mathlib.Core.List.{List, _∷_, _++_, append-nil}
+use Prim.Native.Nat.{ℕ, _+_, _^_, _<_, _≤_}
+use mathlib.Core.Bool.{true}
+use mathlib.Core.Path.{_≡_, sym, ap, _∙_}
+use mathlib.Core.List.{List, _∷_, _++_}
 use native.Mathlib.Omega.{arith}
-use lib.ListN.{length, take, drop, length-append, length-drop}
+use lib.ListN.{length, take, drop, length-append}
 use lib.Seq.{take-add, take-at, drop-drop}
 use borrow.Author.Tests.{le-ltb, lt-leb, eq-eqb, ne-eqb}
 use Rattle.wire.specs.Outcome.{ok, refuse, _>>=_}
 use Rattle.wire.specs.Walk.{walk}
 use Rattle.wire.specs.Bytes.{Bytes, word, wordAt, le32, signed, untilZero}
-use Rattle.wire.proofs.Bytes.{bytes-drop, word-lt, le32-word, bits32-signed, wordAt-front}
+use Rattle.wire.proofs.Bytes.{bytes-drop, word-lt, bits32-signed, wordAt-front}
 use Rattle.wire.proofs.Walk.{walk-turns}
-use Rattle.protocol.specs.Flags.{kept, knows, checksummed}
-use Rattle.protocol.specs.Layout.{maxLength, messageLength, flagWord, sectionsEnd, sectionBytes}
+use Rattle.protocol.specs.Flags.{kept, knows}
+use Rattle.protocol.specs.Layout.{maxLength, messageLength, flagWord, sectionBytes}
 use Rattle.protocol.specs.Sections.{maxSequences, Parts, nothing, bodyStart, sequencesOf, sectionAt}
 use Rattle.protocol.specs.View.{viewOf}
 use Rattle.protocol.specs.Read.{parts, read}
-use Rattle.message.specs.Message.{checksum, message, wholeLength, output}
+use Rattle.message.specs.Message.{wholeLength, output}
 use Rattle.message.specs.Write.{written, write}
 use Rattle.message.specs.Append.{sequenceBytes, appended, append}
 use Rattle.message.specs.Editions.{Room}
@@ -28,7 +28,8 @@ use Rattle.protocol.specs.declared.View.{View}
 use Rattle.protocol.proofs.Accepted.{Sound, Differ, reads, accepted}
 use Rattle.protocol.proofs.Section.{section-steady}
 use Rattle.protocol.proofs.Bits.{Known, known-allKnown, kept-all}
-use Rattle.message.proofs.Message.{size-with, size-without, checksum-with, checksum-without, right-checksum, stated-length, stated-end}
+use Rattle.message.proofs.Message.{stated-length}
+use Rattle.message.proofs.Whole.{word-bytes-at, whole}
 use Rattle.message.proofs.Appended.{appended-flags, appended-end, appended-sections, appended-length, appended-sound, appended-rest}
 
 -- the message s with sections ys
@@ -115,13 +116,9 @@ module _ (e : Edition) (s : List ℕ) (v : View) (h : read e s ≡ ok v) (b : By
 
   -- ---- the message with its body alone is what writing gives
 
-  word-bytes-at : (k : ℕ) → k + 4 ≤ 20 → le32 (wordAt k s) ≡ take 4 (drop k s)
-  unfolding wordAt
-  word-bytes-at k l = le32-word (drop k s) (bytes-drop k s b) (rw length-drop (omega (arith, reads h .sound)))
-
   ids-bytes : le32 (wordAt 4 s) ++ (le32 (wordAt 8 s) ++ le32 2013) ≡ take 12 (drop 4 s)
   ids-bytes =
-      rw (← reads h .sound .opcode, word-bytes-at 4 (omega arith), word-bytes-at 8 (omega arith), word-bytes-at 12 (omega arith))
+      rw (← reads h .sound .opcode, word-bytes-at e s v h b 4 (omega arith), word-bytes-at e s v h b 8 (omega arith), word-bytes-at e s v h b 12 (omega arith))
       (sym (take-add 4 8 (drop 4 s) ∙ ap (λ (l : List ℕ). take 4 (drop 4 s) ++ l) (ap (take 8) (drop-drop 4 4 s) ∙ take-add 4 4 (drop 8 s) ∙ ap (λ (l : List ℕ). take 4 (drop 8 s) ++ take 4 l) (drop-drop 4 8 s))))
 
   id-lt : (k : ℕ) → wordAt k s < 2 ^ 32
@@ -157,32 +154,8 @@ module _ (e : Edition) (s : List ℕ) (v : View) (h : read e s ≡ ok v) (b : By
 
   header-bytes : le32 (wholeLength (flagWord s) (sectionBytes s)) ++ take 12 (drop 4 s) ≡ take 16 s
   unfolding wholeLength
-  header-bytes = rw (← stated-length s (reads h .sound), word-bytes-at 0 (omega arith)) (sym (take-add 4 12 s))
-
-  end-least : 20 ≤ sectionsEnd s
-  end-least = omega (arith, stated-end s (reads h .sound))
-
-  before-end : (le32 (wholeLength (flagWord s) (sectionBytes s)) ++ take 12 (drop 4 s)) ++ (le32 (flagWord s) ++ sectionBytes s) ≡ take (sectionsEnd s) s
-  unfolding sectionBytes
-  before-end =
-      let q : sectionsEnd s ≡ 16 + (4 + (sectionsEnd s - 20)) = omega (arith, end-least) in
-      rw (header-bytes, word-bytes-at 16 (omega arith))
-      (sym (ap (λ (i : ℕ). take i s) q ∙ take-add 16 (4 + (sectionsEnd s - 20)) s ∙ ap (λ (l : List ℕ). take 16 s ++ l) (take-add 4 (sectionsEnd s - 20) (drop 16 s) ∙ ap (λ (l : List ℕ). take 4 (drop 16 s) ++ take (sectionsEnd s - 20) l) (drop-drop 4 16 s))))
-
-  with-checksum : (c : Bool) → checksummed (flagWord s) ≡ c → take (sectionsEnd s) s ++ checksum (flagWord s) (take (sectionsEnd s) s) ≡ take (messageLength s) s
-  unfolding sectionsEnd wordAt
-  with-checksum true c =
-      let n = messageLength s in
-      let k = reads h .sound in
-      let f = size-with (flagWord s) c in
-      let g : n - 4 + 4 ≡ n = omega (arith, k .ended) in
-      let l : 4 ≤ length (drop (n - 4) s) = rw length-drop (omega (arith, k .ended, k .whole)) in
-      rw (checksum-with (flagWord s) (take (sectionsEnd s) s) c, f, ← right-checksum s (k .checksum) c, le32-word (drop (n - 4) s) (bytes-drop (n - 4) s b) l)
-      (sym (take-add (n - 4) 4 s) ∙ ap (λ (i : ℕ). take i s) g)
-  with-checksum false c =
-      let z : messageLength s - 0 ≡ messageLength s = omega arith in
-      rw (checksum-without (flagWord s) (take (sectionsEnd s) s) c, size-without (flagWord s) c, z) (append-nil (take (messageLength s) s))
+  header-bytes = rw (← stated-length s (reads h .sound), word-bytes-at e s v h b 0 (omega arith)) (sym (take-add 4 12 s))
 
   pub whole-made : made s (sectionBytes s) ≡ firstMessage s
-  unfolding appended message firstMessage
-  whole-made = rw before-end (with-checksum (checksummed (flagWord s)) refl)
+  unfolding appended firstMessage
+  whole-made = rw header-bytes (whole e s v h b)

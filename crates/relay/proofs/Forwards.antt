@@ -4,12 +4,13 @@ use Prim.Native.Nat.{ℕ, _+_, _-_, _<_, _≤_}
 use mathlib.Core.Path.{_≡_, refl, sym, _∙_}
 use mathlib.Core.List.{List, [], _++_, append-assoc}
 use native.Mathlib.Omega.{arith}
-use lib.ListN.{length, take, drop, length-append}
+use lib.ListN.{length, take, drop, length-append, length-take}
 use borrow.Author.Tests.{lt-ltb, le-ltb}
 use Rattle.wire.specs.Outcome.{ok, refused}
-use Rattle.wire.specs.Bytes.{le32, put}
+use Rattle.wire.specs.Bytes.{Bytes, word, wordAt, le32, put}
+use Rattle.wire.proofs.Parts.{rest-part}
 use Rattle.wire.proofs.Outcome.{pass, stop, go-on, halt}
-use Rattle.protocol.specs.Layout.{checksumSize, sectionsEnd, sectionBytes}
+use Rattle.protocol.specs.Layout.{checksumSize, flagWord, sectionsEnd, sectionBytes}
 use Rattle.protocol.specs.Read.{read}
 use Rattle.protocol.specs.declared.Edition.{Edition}
 use Rattle.protocol.specs.declared.View.{View}
@@ -18,6 +19,7 @@ use Rattle.message.specs.Message.{message, checksum, wholeLength}
 use Rattle.message.specs.Forward.{forwarded, forward}
 use Rattle.message.proofs.Message.{header-length, header-word, stated-length, stated-end}
 use Rattle.message.proofs.Forwarded.{view-length, form}
+use Rattle.message.proofs.Whole.{whole}
 use Rattle.storing.proofs.Stores.{Stored, stores-none, stores, sealed}
 
 -- what forwarding answers: reading's refusal, 25, or the message
@@ -49,6 +51,21 @@ module _ (e : Edition) (s : List ℕ) (v : View) (h : read e s ≡ ok v) where
   shown-bounds =
       let k = reads h .sound in
       (omega (arith, shown-size), omega (arith, shown-size), omega (arith, shown-size, stated-length s k, k .whole))
+
+  pub shown-whole : v .length ≤ length s
+  shown-whole = omega (arith, view-length e s v h, reads h .sound .whole)
+
+  -- where its flag word is the one that is shown, it is forwarded as it is
+  module _ (bytes : Bytes s) (w : ℕ) (w-is : w ≡ word (take (length s - 16) (drop 16 s))) (same : w ≡ v .flags) (out : List ℕ) (room : v .length ≤ length out) where
+    flags-same : flagWord s ≡ v .flags
+    unfolding wordAt
+    flags-same = sym (rw (rest-part 16 s) at w-is) ∙ same
+
+    pub forward-same : put 0 (take (v .length) s) out ≡ forwarded s v ++ drop (length (forwarded s v)) out
+    unfolding forwarded
+    forward-same =
+        let is : forwarded s v ≡ take (v .length) s = rw (← flags-same, view-length e s v h) (whole e s v h bytes) in
+        rw is (stores [] (take (v .length) s) out out 0 refl (omega (arith, length-take (v .length) s)) (stores-none out))
 
   -- the header, the flag word, the sections and the checksum of k bytes, stored one behind the other
   module _ (k : ℕ) (k-is : k ≡ checksumSize (v .flags)) (out a b c : List ℕ) (room : v .length ≤ length out) (first : a ≡ put 0 (take 16 s) out)

@@ -8,6 +8,7 @@ use protocol::Verdict;
 use put::put;
 use put::put_word;
 use storing::seal;
+use wire::word;
 ghost use mathlib.Core.Path.{_≡_};
 ghost use lib.ListN.{length};
 ghost use Rattle.protocol.specs.View.{answer};
@@ -28,6 +29,11 @@ pub fn forward(e: Edition, s: &[u8], out: &mut [u8]) -> Reading
     let flags = r.view.flags;
     if out.len() < length {
         return refusal(25, 0);
+    }
+    // The flag word stays, and so does the checksum, which was checked.
+    if word(&s[16..]) == flags {
+        put(out, 0, &s[..length]);
+        return r;
     }
     let end = length - checksum_size(flags) as usize;
     put(out, 0, &s[..16]);

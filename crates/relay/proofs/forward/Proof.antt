@@ -10,7 +10,7 @@ use Rattle.protocol.specs.View.{answer}
 use Rattle.protocol.specs.Read.{read}
 use Rattle.protocol.proofs.Answered.{answer-refused, answer-accepted}
 use Rattle.message.specs.Message.{viewed, output}
-use Rattle.relay.proofs.Forwards.{forward-refused, forward-short, forward-fits, shown-bounds, forward-stores}
+use Rattle.relay.proofs.Forwards.{forward-refused, forward-short, forward-fits, shown-bounds, shown-whole, forward-same, forward-stores}
 use Rattle.relay.proofs.forward.Statement.{statement}
 use Rattle.relay.proofs.forward.Tie as tie
 
@@ -32,53 +32,74 @@ returns-2 c =
     let f = forward-short (p8 .args .e) (p8 .args .s .now) (length (p8 .args .out .now)) (p5 .read .result .view) (answer-accepted (read (p8 .args .e) (p8 .args .s .now)) _ (p5 .read .ensures) (p3 .enum-told .given .1)) (c .before .if1 .taken) in
     (rw (c .refusal2 .ensures, f), rw f)
 
-sub-end : tie.Need-sub-end
-sub-end c =
-    let p3 = c .before .before .before in
-    let p5 = p3 .before .before in
-    let p8 = p5 .before .before .before in
-    omega (arith, shown-bounds (p8 .args .e) (p8 .args .s .now) (p5 .read .result .view) (answer-accepted (read (p8 .args .e) (p8 .args .s .now)) _ (p5 .read .ensures) (p3 .enum-told .given .1)), c .checksum-size .ensures)
+sub-word : tie.Need-sub-word
+sub-word c =
+    let t = c .before .before in
+    let r = t .before .before in
+    let a = r .before .before .before in
+    omega (arith, shown-bounds (a .args .e) (a .args .s .now) (r .read .result .view) (answer-accepted (read (a .args .e) (a .args .s .now)) _ (r .read .ensures) (t .enum-told .given .1)))
 
 slice-aggregate-put : tie.Need-slice-aggregate-put
 slice-aggregate-put c =
-    let p5 = c .before .before .before .before .before in
-    let p7 = p5 .before .before in
-    let p10 = p7 .before .before .before in
-    let b = shown-bounds (p10 .args .e) (p10 .args .s .now) (p7 .read .result .view) (answer-accepted (read (p10 .args .e) (p10 .args .s .now)) _ (p7 .read .ensures) (p5 .enum-told .given .1)) in
-    sym (length-take-le 16 (p10 .args .s .now) (omega arith))
-
-sub-put : tie.Need-sub-put
-sub-put c =
-    let p10 = c .before .before .before .before .before .before .before .before .before .before in
-    let p13 = p10 .before .before .before in
-    let p15 = p13 .before .before in
-    let p18 = p15 .before .before .before in
-    omega (arith, shown-bounds (p18 .args .e) (p18 .args .s .now) (p15 .read .result .view) (answer-accepted (read (p18 .args .e) (p18 .args .s .now)) _ (p15 .read .ensures) (p13 .enum-told .given .1)), p10 .checksum-size .ensures)
-
-part-put-end : tie.Need-part-put-end
-part-put-end c =
-    let p10 = c .before .before .before .before .before .before .before .before .before .before in
-    let p13 = p10 .before .before .before in
-    let p15 = p13 .before .before in
-    let p18 = p15 .before .before .before in
-    omega (arith, shown-bounds (p18 .args .e) (p18 .args .s .now) (p15 .read .result .view) (answer-accepted (read (p18 .args .e) (p18 .args .s .now)) _ (p15 .read .ensures) (p13 .enum-told .given .1)), p10 .checksum-size .ensures)
+    let t = c .before .before .before .before .before .before .before in
+    let r = t .before .before in
+    let a = r .before .before .before in
+    sym (length-take-le _ (a .args .s .now) (shown-whole (a .args .e) (a .args .s .now) (r .read .result .view) (answer-accepted (read (a .args .e) (a .args .s .now)) _ (r .read .ensures) (t .enum-told .given .1))))
 
 returns-3 : tie.Need-returns-3
 unfolding viewed output _>>=_
 returns-3 c =
-    let p2 = c .before .before in
-    let p6 = p2 .before .before .before .before in
-    let p11 = p6 .before .before .before .before .before in
-    let p15 = p11 .before .before .before .before in
-    let p18 = p15 .before .before .before in
-    let p19 = p18 .before in
-    let p21 = p19 .before .before in
-    let p23 = p21 .before .before in
-    let p26 = p23 .before .before .before in
-    let h = answer-accepted (read (p26 .args .e) (p26 .args .s .now)) _ (p23 .read .ensures) (p21 .enum-told .given .1) in
-    let f = forward-fits (p26 .args .e) (p26 .args .s .now) (length (p26 .args .out .now)) (p23 .read .result .view) h (p19 .if1 .left) in (
-      rw f (p23 .read .ensures ∙ ap answer h),
-      rw f (p2 .seal .ensures ∙ forward-stores (p26 .args .e) (p26 .args .s .now) (p23 .read .result .view) h (p18 .checksum-size .result) (p18 .checksum-size .ensures) (p26 .args .out .now) _ _ _ (p19 .if1 .left) (p15 .put .ensures) (p11 .put-word .ensures) (p6 .put2 .ensures)),
+    let t = c .before .before .before .before .before .before .before .before .before .before in
+    let r = t .before .before in
+    let a = r .before .before .before in
+    let h = answer-accepted (read (a .args .e) (a .args .s .now)) _ (r .read .ensures) (t .enum-told .given .1) in
+    let l = c .before .before .before .before .before .before .before .before .if1 .left in
+    let f = forward-fits (a .args .e) (a .args .s .now) (length (a .args .out .now)) (r .read .result .view) h l in (
+      rw f (r .read .ensures ∙ ap answer h),
+      rw f (c .before .before .put .ensures ∙ forward-same (a .args .e) (a .args .s .now) (r .read .result .view) h (λ i. omega (arith, c .before .before .before .before .before .before .before .before .before .before .before .before .before .before .shared-slice-known .given i)) _ (c .before .before .before .before .before .before .word .ensures) (c .before .before .before .before .before .if2 .taken) (a .args .out .now) l),
+    )
+
+sub-end : tie.Need-sub-end
+sub-end c =
+    let t = c .before .before .before .before .before .before in
+    let r = t .before .before in
+    let a = r .before .before .before in
+    omega (arith, shown-bounds (a .args .e) (a .args .s .now) (r .read .result .view) (answer-accepted (read (a .args .e) (a .args .s .now)) _ (r .read .ensures) (t .enum-told .given .1)), c .checksum-size .ensures)
+
+slice-aggregate-put-2 : tie.Need-slice-aggregate-put-2
+slice-aggregate-put-2 c =
+    let t = c .before .before .before .before .before .before .before .before in
+    let r = t .before .before in
+    let a = r .before .before .before in
+    let b = shown-bounds (a .args .e) (a .args .s .now) (r .read .result .view) (answer-accepted (read (a .args .e) (a .args .s .now)) _ (r .read .ensures) (t .enum-told .given .1)) in
+    sym (length-take-le 16 (a .args .s .now) (omega arith))
+
+sub-put : tie.Need-sub-put
+sub-put c =
+    let t = c .before .before .before .before .before .before .before .before .before .before .before .before .before .before .before .before in
+    let r = t .before .before in
+    let a = r .before .before .before in
+    omega (arith, shown-bounds (a .args .e) (a .args .s .now) (r .read .result .view) (answer-accepted (read (a .args .e) (a .args .s .now)) _ (r .read .ensures) (t .enum-told .given .1)), c .before .before .before .before .before .before .before .before .before .before .checksum-size .ensures)
+
+part-put-end : tie.Need-part-put-end
+part-put-end c =
+    let t = c .before .before .before .before .before .before .before .before .before .before .before .before .before .before .before .before in
+    let r = t .before .before in
+    let a = r .before .before .before in
+    omega (arith, shown-bounds (a .args .e) (a .args .s .now) (r .read .result .view) (answer-accepted (read (a .args .e) (a .args .s .now)) _ (r .read .ensures) (t .enum-told .given .1)), c .before .before .before .before .before .before .before .before .before .before .checksum-size .ensures)
+
+returns-4 : tie.Need-returns-4
+unfolding viewed output _>>=_
+returns-4 c =
+    let t = c .before .before .before .before .before .before .before .before .before .before .before .before .before .before .before .before .before .before .before .before .before .before .before .before in
+    let r = t .before .before in
+    let a = r .before .before .before in
+    let k = c .before .before .before .before .before .before .before .before .before .before .before .before .before .before .before .before .before .before in
+    let l = c .before .before .before .before .before .before .before .before .before .before .before .before .before .before .before .before .before .before .before .before .before .before .if1 .left in
+    let h = answer-accepted (read (a .args .e) (a .args .s .now)) _ (r .read .ensures) (t .enum-told .given .1) in
+    let f = forward-fits (a .args .e) (a .args .s .now) (length (a .args .out .now)) (r .read .result .view) h l in (
+      rw f (r .read .ensures ∙ ap answer h),
+      rw f (c .before .before .seal .ensures ∙ forward-stores (a .args .e) (a .args .s .now) (r .read .result .view) h (k .checksum-size .result) (k .checksum-size .ensures) (a .args .out .now) _ _ _ l (c .before .before .before .before .before .before .before .before .before .before .before .before .before .before .before .put2 .ensures) (c .before .before .before .before .before .before .before .before .before .before .before .put-word .ensures) (c .before .before .before .before .before .before .put3 .ensures)),
     )
 
 pub forward-spec : {M : Type 1} → statement M
@@ -93,10 +114,18 @@ forward-spec =
     (λ c. search needs)
     (λ c κs. search needs)
     returns-2
+    sub-word
+    sub-word
+    (λ c. search needs)
+    (λ c κs. search needs)
+    slice-aggregate-put
+    (λ c κs. search needs)
+    (λ c. search needs)
+    returns-3
     (λ c κs. search needs)
     (λ c. search needs)
     sub-end
-    slice-aggregate-put
+    slice-aggregate-put-2
     (λ c κs. search needs)
     (λ c κs. search needs)
     sub-put
@@ -105,4 +134,4 @@ forward-spec =
     (λ c κs. search needs)
     (λ c κs. search needs)
     (λ c. search needs)
-    returns-3)
+    returns-4)
