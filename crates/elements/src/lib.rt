@@ -69,7 +69,7 @@ pub fn element_size(s: &[u8]) -> usize
         return 0;
     }
     let n = until_zero(&s[1..]);
-    if s.len() <= 1 + n {
+    if s.len() <= n + 1 {
         return 0;
     }
     let start = n + 2;
