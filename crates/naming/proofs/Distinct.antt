@@ -5,7 +5,7 @@ use mathlib.Core.Bool.{Bool, true, false, _||_}
 use mathlib.Core.Path.{_≡_, refl, sym, _∙_, ap}
 use mathlib.Core.List.{List, [], _∷_, _++_, append-nil, append-assoc}
 use native.Mathlib.Omega.{arith}
-use lib.ListN.{length, getD, take, drop, set, replicate, length-set}
+use lib.ListN.{length, getD, take, drop, set, length-set}
 use lib.Seq.{getD-set-same, getD-set-other}
 use lib.Bits.{bitOr}
 use lib.Dec.{eqb}
@@ -29,8 +29,8 @@ pub slot-small : (t : List ℕ) → slotOf t / 64 < 32
 unfolding slotOf
 slot-small t = omega arith
 
-pub marks-none : Marks [] (replicate 32 0)
-marks-none = record { size = refl; shows = λ t h. unfold among in not-both refl h }
+pub marks-none : (marks : List ℕ) → length marks ≡ 32 → Marks [] marks
+marks-none marks h = record { size = h; shows = λ t h. unfold among in not-both refl h }
 
 -- marks with one more: the word that it changes, and the whole
 abbrev one-more : List ℕ → ℕ → ℕ

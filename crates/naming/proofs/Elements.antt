@@ -6,7 +6,7 @@ use mathlib.Core.Path.{_≡_, refl, sym, _∙_, ap}
 use mathlib.Core.List.{List, [], _∷_}
 use native.Mathlib.Numerals.{sub-one}
 use native.Mathlib.Omega.{arith}
-use lib.ListN.{length, take, drop, replicate, length-drop, length-map, drop-of-length-le}
+use lib.ListN.{length, take, drop, length-drop, length-map, drop-of-length-le}
 use lib.Seq.{drop-drop, take-all, take-nil}
 use borrow.Author.Tests.{ne-eqb}
 use Rattle.wire.specs.Outcome.{ok, refused}
@@ -158,10 +158,10 @@ pub record Listed (at : ℕ) (xs : List ℕ) (i k : ℕ) (marks : List ℕ) : Ty
   pub met : Met 23 [] (elementNames (length xs) at xs) k marks
 
 module _ (at : ℕ) (xs : List ℕ) where
-  pub listed-none : Filled xs → Listed at xs 0 0 (replicate 32 0)
-  listed-none f =
+  pub listed-none : Filled xs → (marks : List ℕ) → length marks ≡ 32 → Listed at xs 0 0 marks
+  listed-none f marks h =
       let e : at + 0 ≡ at = omega arith in
-      record { turns = length xs; reached = reached-none xs f; whole = f; few = omega arith; left = rw e; met = met-none 23 [] _ marks-none }
+      record { turns = length xs; reached = reached-none xs f; whole = f; few = omega arith; left = rw e; met = met-none 23 [] _ (marks-none marks h) }
 
   module _ (i k : ℕ) {marks : List ℕ} (l : Listed at xs i k marks) where
     before : texts (take k (elementNames (length xs) at xs)) ≡ take k (namesOf xs)

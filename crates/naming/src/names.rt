@@ -5,21 +5,16 @@ use protocol::Verdict;
 use protocol::refused;
 use wire::until_zero;
 use wire::word;
-ghost use mathlib.Core.List.{List, map, _++_};
+ghost use mathlib.Core.List.{List, [], map, _++_};
 ghost use mathlib.Core.Path.{_≡_};
 ghost use Prim.Native.Nat.{_+_, _-_, _%_, _^_, _<_, _≤_};
 ghost use lib.ListN.{length, take};
-ghost use Rattle.protocol.specs.Names.{sameText, among, distinct, part, identifier, texts, bodyNames, identifiers};
+ghost use Rattle.protocol.specs.Names.{sameText, among, distinct, part, identifier, texts, elementNames, bodyNames, identifiers};
 ghost use Rattle.protocol.specs.Sections.{Section};
 ghost use Rattle.protocol.specs.Read.{distinctNames};
+ghost use Rattle.protocol.specs.declared.Verdict.the-variants.{Accepted};
 ghost use Rattle.protocol.specs.Answers.{judged, Shows, Filled};
-ghost use Rattle.naming.specs.Answers.{nameText, namesOf, slotOf, Marks, Surveyed};
-
-// Check 23 of a body's elements, and the marks of their names.
-pub struct Survey {
-    pub verdict: Verdict,
-    pub marks: [u64; 32],
-}
+ghost use Rattle.naming.specs.Answers.{nameText, namesOf, spread, slotOf, Marks};
 
 // Two texts are the same.
 fn same(a: &[u8], b: &[u8]) -> bool
@@ -63,14 +58,24 @@ fn name(xs: &[u8]) -> &[u8]
     &rest[..n]
 }
 
+// A slot for a text that begins and ends with two words.
+fn spread(first: u32, last: u32) -> usize
+    ensures { λ r. ⌜ r ≡ spread first last ⌝ }
+{
+    (first as usize + 3 * last as usize) * 0x9E3_779B / 0x40_0000 % 2048
+}
+
 // Where the mark of a text stands.
 fn slot(text: &[u8]) -> usize
     ensures { λ r. ⌜ r ≡ slotOf (now (text .entry)) ⌝ }
 {
     let n = text.len();
-    let start = if n < 4 { 0 } else { n - 4 };
-    let tail = word(&text[start..]) as usize;
-    (n + word(text) as usize + 3 * tail) % 2039
+    if n < 4 {
+        let w = word(text);
+        return spread(w, w);
+    }
+    let start = n - 4;
+    spread(word(text), word(&text[start..]))
 }
 
 // The bit of a slot in its word.
@@ -101,12 +106,12 @@ fn named(xs: &[u8], k: usize, text: &[u8]) -> bool
     false
 }
 
-// Check 23 of a body's elements xs, the first at a place; marks keep most names from being compared.
-pub fn body_names(xs: &[u8], at: usize) -> Survey
-    requires { ⌜ Filled (now xs) × (at + length (now xs) < 2 ^ 64) ⌝ }
-    ensures { λ r. ⌜ Surveyed at (now (xs .entry)) r ⌝ }
+// Check 23 of a body's elements xs, the first at a place. Their names get marks, which keep most from being compared.
+pub fn body_names(xs: &[u8], at: usize, marks: &mut [u64; 32]) -> Verdict
+    requires { ⌜ Filled (now xs) × (at + length (now xs) < 2 ^ 64) × (length (now marks) ≡ 32) ⌝ }
+    ensures is { λ r. ⌜ judged r ≡ distinct 23 [] (elementNames (length (now (xs .entry))) at (now (xs .entry))) ⌝ }
+    ensures marked { λ r. ⌜ (r ≡ Accepted → Marks (namesOf (now (xs .entry))) (now (marks .exit))) ⌝ }
 {
-    let mut marks: [u64; 32] = [0; 32];
     let mut k: usize = 0;
     let mut i: usize = 0;
     while i < xs.len() {
@@ -118,20 +123,14 @@ pub fn body_names(xs: &[u8], at: usize) -> Survey
         let hit = old & set;
         if hit == set {
             if named(xs, k, text) {
-                return Survey {
-                    verdict: refused(23, at + i + 1),
-                    marks,
-                };
+                return refused(23, at + i + 1);
             }
         }
         marks[mark / 64] = old | set;
         k += 1;
         i += element_size(rest);
     }
-    Survey {
-        verdict: Verdict::Accepted,
-        marks,
-    }
+    Verdict::Accepted
 }
 
 // A text is the identifier of one of the first k sequences.
@@ -215,12 +214,14 @@ pub fn distinct_names(
         return refused(22, end);
     }
     let content = elements(xs, body, body_length);
-    let found = body_names(content, body + 4);
-    let verdict = found.verdict;
+    let mut marks: [u64; 32] = [0; 32];
+    let verdict = body_names(content, body + 4, &mut marks);
     let Verdict::Accepted = verdict else {
         return verdict;
     };
-    let marks = found.marks;
+    if count == 0 {
+        return Verdict::Accepted;
+    }
     identifiers_differ(xs, content, marks, sequences, count)
 }
 

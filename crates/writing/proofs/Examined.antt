@@ -2,7 +2,7 @@
 -- Assumes nothing.
 use Prim.Native.Nat.{ℕ, _-_, _≤_}
 use mathlib.Core.Path.{_≡_, sym, ap, _∙_}
-use mathlib.Core.List.{List}
+use mathlib.Core.List.{List, []}
 use native.Mathlib.Omega.{arith}
 use lib.ListN.{length, take, drop, length-take}
 use Rattle.wire.specs.Outcome.{refused, _>>=_}
@@ -11,8 +11,8 @@ use Rattle.wire.proofs.Outcome.{go-on, halt}
 use Rattle.bson.specs.Document.{documentAt, maxLevels, told}
 use Rattle.bson.specs.declared.Walk.{Walk}
 use Rattle.protocol.specs.Answers.{judged, Filled}
-use Rattle.naming.specs.Answers.{Surveyed}
-use Rattle.naming.specs.declared.names.Survey.{Survey}
+use Rattle.protocol.specs.Names.{distinct, elementNames}
+use Rattle.protocol.specs.declared.Verdict.{Verdict}
 use Rattle.naming.proofs.Elements.{names-turns}
 use Rattle.documents.proofs.Fill.{document-filled}
 use Rattle.writing.specs.Answers.{examined}
@@ -30,8 +30,9 @@ module _ (s : List ℕ) (w : Walk) (is : told w ≡ documentAt maxLevels 21 s 0)
     pub body-filled : Filled (take (size - 1 - 4) (drop 4 s))
     body-filled = rw inner (document-filled maxLevels 21 s 0 (record { size = size; state = count }) (sym is ∙ ap told h))
 
-    pub body-named : (v : Survey) → Surveyed 25 (take (size - 1 - 4) (drop 4 s)) v → examined s ≡ (judged (v .verdict) >>= λ _. step size count)
+    pub body-named : (v : Verdict) → judged v ≡ distinct 23 [] (elementNames (length (take (size - 1 - 4) (drop 4 s))) 25 (take (size - 1 - 4) (drop 4 s)))
+        → examined s ≡ (judged v >>= λ _. step size count)
     unfolding examined
     body-named v k =
         let short : length (take (size - 1 - 4) (drop 4 s)) ≤ size = rw length-take (omega arith) in
-        go-on _ (sym is ∙ ap told h) ∙ rw (k .is, ← inner, names-turns size (length (take (size - 1 - 4) (drop 4 s))) 25 _ body-filled short (omega arith))
+        go-on _ (sym is ∙ ap told h) ∙ rw (k, ← inner, names-turns size (length (take (size - 1 - 4) (drop 4 s))) 25 _ body-filled short (omega arith))

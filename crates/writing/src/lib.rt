@@ -54,8 +54,8 @@ fn examine(body: &[u8]) -> Walk
         return w;
     };
     let last = size - 1;
-    let names = body_names(&body[4..last], 25);
-    let verdict = names.verdict;
+    let mut marks: [u64; 32] = [0; 32];
+    let verdict = body_names(&body[4..last], 25, &mut marks);
     if let Verdict::Refused { number, place } = verdict {
         return Walk::Refused { number, place };
     }

@@ -1,6 +1,6 @@
 -- `writing::examine` meets its contract: the document, and then its names.
 -- Assumes nothing.
-use mathlib.Core.Path.{sym}
+use mathlib.Core.Path.{refl, sym}
 use native.Mathlib.Omega.{arith}
 use lib.ListN.{length-take}
 use borrow.Author.Needs.{needs}
@@ -34,25 +34,25 @@ part-body-names-end c = omega (arith, framed c .fits)
 
 body-names-requires : tie.Need-body-names-requires
 body-names-requires c κs =
-    let p2 = c .before .before in
-    let p4 = p2 .before .before in
-    (body-filled (p4 .before .before .args .body .now) (p4 .document .result) (p4 .document .ensures) (p2 .w .given .1), rw length-take (omega (arith, framed (c .before) .small)))
+    let p3 = c .before .before .before in
+    let p5 = p3 .before .before in
+    (body-filled (p5 .before .before .args .body .now) (p5 .document .result) (p5 .document .ensures) (p3 .w .given .1), rw length-take (omega (arith, framed (c .before .before) .small)), refl)
 
 returns-2 : tie.Need-returns-2
 unfolding _>>=_
 returns-2 c =
     let p3 = c .before .before .before in
-    let p6 = p3 .before .before .before in
-    let p8 = p6 .before .before in
-    sym (rw (c .before .verdict .given .1) at (body-named (p8 .before .before .args .body .now) (p8 .document .result) (p8 .document .ensures) (p6 .w .given .1) (p3 .body-names .result) (p3 .body-names .ensures)))
+    let p7 = p3 .before .before .before .before in
+    let p9 = p7 .before .before in
+    sym (rw (c .before .verdict .given .1) at (body-named (p9 .before .before .args .body .now) (p9 .document .result) (p9 .document .ensures) (p7 .w .given .1) (p3 .body-names .result) (p3 .body-names .ensures .0)))
 
 returns-3 : tie.Need-returns-3
 unfolding _>>=_
 returns-3 c =
     let p2 = c .before .before in
-    let p5 = p2 .before .before .before in
-    let p7 = p5 .before .before in
-    sym (rw (c .enum-told2 .given .1) at (body-named (p7 .before .before .args .body .now) (p7 .document .result) (p7 .document .ensures) (p5 .w .given .1) (p2 .body-names .result) (p2 .body-names .ensures)))
+    let p6 = p2 .before .before .before .before in
+    let p8 = p6 .before .before in
+    sym (rw (c .enum-told2 .given .1) at (body-named (p8 .before .before .args .body .now) (p8 .document .result) (p8 .document .ensures) (p6 .w .given .1) (p2 .body-names .result) (p2 .body-names .ensures .0)))
 
 pub examine-spec : {M : Type 1} → statement M
 examine-spec =

@@ -1,4 +1,4 @@
--- `opmsg::names::bit` meets its contract.
+-- `naming::names::bit` meets its contract.
 -- Assumes nothing.
 use Prim.Native.Nat.{_%_}
 use mathlib.Core.Path.{_∙_}

@@ -1,4 +1,4 @@
--- `opmsg::names::body_names` meets its contract. The loop's invariant: the k elements before place i have names that differ, and their marks are made.
+-- `naming::names::body_names` meets its contract. The loop's invariant: the k elements before place i have names that differ, and their marks are made.
 -- The measure is what is left of the bytes. Assumes nothing.
 use Prim.Native.Nat.{_-_}
 use mathlib.Core.Bool.{true, false}
@@ -23,10 +23,10 @@ abbrev μ-loop : tie.MeasureT-loop
 μ-loop xs at marks₀ k₀ i₀ marks k i = length xs - i
 
 size-is : (c : tie.After-element-size Inv-loop μ-loop) →
-    let l = c .before .before .before .before .before .before .before in
+    let l = c .before .before .before .before .before .before .before .before in
     c .element-size .result ≡ elementSize (drop (l .loop .i) (l .before .before .args .xs .now))
 size-is c =
-    let t = c .before .before .before .before .before .before in
+    let t = c .before .before .before .before .before .before .before in
     let l = t .before in
     let s = reached-size _ _ _ (l .loop .inv .reached) (t .loop-test .taken) in
     (rw (rest-part (l .loop .i) (l .before .before .args .xs .now)) at (c .element-size .ensures)) (s .0) (s .1)
@@ -45,17 +45,17 @@ slot-is c = c .slot .ensures ∙ ap slotOf (name-is c)
 
 -- behind the branch the name is new
 fresh : (c : tie.Joined1 Inv-loop μ-loop) →
-    let l = c .before .before .before .before .before .before in
+    let l = c .before .before .before .before .before .before .before in
     among (take (l .loop .k) (namesOf (l .before .before .args .xs .now))) (nameText (drop (l .loop .i) (l .before .before .args .xs .now))) ≡ false
 fresh c =
-    let l = c .before .before .before .before .before .before in
+    let l = c .before .before .before .before .before .before .before in
     ⊎-elim
-    (λ w. rw (name-is (c .before .before)) at (sym (w .1 .ensures) ∙ w .2 .left))
-    (λ w. listed-unmarked _ _ (l .loop .i) _ (l .loop .inv) _ (rw (c .before .bit .ensures, slot-is (c .before .before)) at (w .left)))
+    (λ w. rw (name-is (c .before .before .before)) at (sym (w .1 .ensures) ∙ w .2 .left))
+    (λ w. listed-unmarked _ _ (l .loop .i) _ (l .loop .inv) _ (rw (c .before .before .bit .ensures, slot-is (c .before .before .before)) at (w .left)))
     (c .if1 .came)
 
 loop-holds : tie.Need-loop-holds Inv-loop μ-loop
-loop-holds c = listed-none _ _ (c .before .pre .0)
+loop-holds c = listed-none _ _ (c .before .pre .0) _ (c .before .pre .2)
 
 name-requires : tie.Need-name-requires Inv-loop μ-loop
 name-requires c κs = simp (length-take, length-drop) (omega arith)
@@ -63,61 +63,59 @@ name-requires c κs = simp (length-take, length-drop) (omega arith)
 mul-old : tie.Need-mul-old Inv-loop μ-loop
 mul-old c = omega (arith, c .before .slot .ensures, slot-small (c .before .before .name .result .now))
 
-array-read-old : tie.Need-array-read-old Inv-loop μ-loop
-array-read-old c = rw (c .before .slot .ensures) (slot-small _)
+element-copy-out-old : tie.Need-element-copy-out-old Inv-loop μ-loop
+element-copy-out-old c = rw (c .before .slot .ensures) (slot-small _)
 
 named-requires : tie.Need-named-requires Inv-loop μ-loop
-named-requires c κs = c .before .before .before .before .before .before .before .before .pre .0
+named-requires c κs = c .before .before .before .before .before .before .before .before .before .pre .0
 
 returns : tie.Need-returns Inv-loop μ-loop
 returns c =
     let p2 = c .before .before in
-    let p8 = p2 .before .before .before .before .before .before in
+    let p8 = p2 .before .before .before .before .before .before .before in
     let p9 = p8 .before in
     let p11 = p9 .before .before in
     let e : among (take (p9 .loop .k) (namesOf (p11 .args .xs .now))) (nameText (drop (p9 .loop .i) (p11 .args .xs .now))) ≡ true =
-    rw (name-is (c .before .before .before .before .before)) at (sym (p2 .named .ensures) ∙ c .before .if2 .taken) in
-    record {
-      is = rw (c .refused .ensures) (sym (listed-again _ _ (p9 .loop .i) _ (p9 .loop .inv) (p8 .loop-test .taken) e));
-      marked = λ h. not-accepted (c .refused .ensures) h;
-    }
+    rw (name-is (c .before .before .before .before .before .before)) at (sym (p2 .named .ensures) ∙ c .before .if2 .taken) in (
+      rw (c .refused .ensures) (sym (listed-again _ _ (p9 .loop .i) _ (p9 .loop .inv) (p8 .loop-test .taken) e)),
+      λ h. not-accepted (c .refused .ensures) h,
+    )
 
 mul-marks : tie.Need-mul-marks Inv-loop μ-loop
 mul-marks c =
-    let p2 = c .before .before in
-    omega (arith, p2 .slot .ensures, slot-small (p2 .before .name .result .now))
+    let p3 = c .before .before .before in
+    omega (arith, p3 .slot .ensures, slot-small (p3 .before .name .result .now))
 
-array-write-marks : tie.Need-array-write-marks Inv-loop μ-loop
-array-write-marks c = rw (c .before .before .slot .ensures) (slot-small _)
+element-write-marks : tie.Need-element-write-marks Inv-loop μ-loop
+element-write-marks c = rw (c .before .before .before .slot .ensures) (slot-small _)
 
 add-k : tie.Need-add-k Inv-loop μ-loop
 add-k c = omega arith
 
 add-i : tie.Need-add-i Inv-loop μ-loop
 add-i c =
-    let p6 = c .before .before .before .before .before .before in
-    let r = reached-next _ _ _ (p6 .before .loop .inv .reached) (p6 .loop-test .taken) _ (size-is c) in
+    let p7 = c .before .before .before .before .before .before .before in
+    let r = reached-next _ _ _ (p7 .before .loop .inv .reached) (p7 .loop-test .taken) _ (size-is c) in
     omega (arith, r .1 .within)
 
 loop-less : tie.Need-loop-less Inv-loop μ-loop
 loop-less c =
-    let p6 = c .before .before .before .before .before .before in
-    let r = reached-next _ _ _ (p6 .before .loop .inv .reached) (p6 .loop-test .taken) _ (size-is c) in
+    let p7 = c .before .before .before .before .before .before .before in
+    let r = reached-next _ _ _ (p7 .before .loop .inv .reached) (p7 .loop-test .taken) _ (size-is c) in
     omega (arith, r .0)
 
 loop-again : tie.Need-loop-again Inv-loop μ-loop
 loop-again c =
-    let p2 = c .before .before in
-    let p6 = p2 .before .before .before .before in
-    rw (p2 .bit .ensures, slot-is (c .before .before .before))
-    (listed-next _ _ _ _ (p6 .before .loop .inv) (p6 .loop-test .taken) _ (size-is c) (fresh (c .before)))
+    let p3 = c .before .before .before in
+    let p7 = p3 .before .before .before .before in
+    rw (p3 .bit .ensures, slot-is (p3 .before))
+    (listed-next _ _ _ _ (p7 .before .loop .inv) (p7 .loop-test .taken) _ (size-is c) (fresh (c .before)))
 
 returns-2 : tie.Need-returns-2 Inv-loop μ-loop
-returns-2 c =
-    record {
-      is = sym (listed-all _ _ _ _ (c .before .loop .inv) (c .loop-test .left));
-      marked = λ h. listed-marks _ _ _ _ (c .before .loop .inv) (c .loop-test .left);
-    }
+returns-2 c = (
+  sym (listed-all _ _ _ _ (c .before .loop .inv) (c .loop-test .left)),
+  λ h. listed-marks _ _ _ _ (c .before .loop .inv) (c .loop-test .left),
+)
 
 pub body-names-spec : {M : Type 1} → statement M
 body-names-spec =
@@ -133,14 +131,14 @@ body-names-spec =
     (λ c κs. search needs)
     (λ c κs. search needs)
     mul-old
-    array-read-old
+    element-copy-out-old
     named-requires
     (λ c. search needs)
     (λ c. search needs)
     (λ c κs. search needs)
     returns
     mul-marks
-    array-write-marks
+    element-write-marks
     add-k
     (λ c κs. search needs)
     add-i

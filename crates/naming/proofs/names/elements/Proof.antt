@@ -1,4 +1,4 @@
--- `opmsg::names::elements` meets its contract.
+-- `naming::names::elements` meets its contract.
 -- Assumes nothing.
 use Prim.Native.Nat.{_-_}
 use mathlib.Core.Path.{_≡_}

@@ -1,4 +1,4 @@
--- `opmsg::names::identified` meets its contract. The loop's invariant: the text is among the first k identifiers if it is among those from i on.
+-- `naming::names::identified` meets its contract. The loop's invariant: the text is among the first k identifiers if it is among those from i on.
 -- The measure is the number of those left. Assumes nothing.
 use Prim.Native.Nat.{_-_, _≤_}
 use mathlib.Core.Path.{_≡_, refl, sym, _∙_}

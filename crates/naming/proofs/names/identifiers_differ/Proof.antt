@@ -1,4 +1,4 @@
--- `opmsg::names::identifiers_differ` meets its contract. The loop's invariant: the first k identifiers differ, and their marks are made.
+-- `naming::names::identifiers_differ` meets its contract. The loop's invariant: the first k identifiers differ, and their marks are made.
 -- The measure is the number of those left. Assumes nothing.
 use Prim.Native.Nat.{_-_, _≤_}
 use mathlib.Core.Logic.{⊎-elim}

@@ -1,4 +1,4 @@
--- `opmsg::names::name` meets its contract.
+-- `naming::names::name` meets its contract.
 -- Assumes nothing.
 use mathlib.Core.Path.{sym}
 use lib.Seq.{length-take-le}

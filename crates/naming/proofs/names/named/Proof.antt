@@ -1,4 +1,4 @@
--- `opmsg::names::named` meets its contract. The loop's invariant: the text is among the first k names if it is among the next `left` from here.
+-- `naming::names::named` meets its contract. The loop's invariant: the text is among the first k names if it is among the next `left` from here.
 -- The measure is what is left of the bytes. Assumes nothing.
 use Prim.Native.Nat.{_-_}
 use mathlib.Core.Bool.{true, false}

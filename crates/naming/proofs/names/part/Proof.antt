@@ -1,4 +1,4 @@
--- `opmsg::names::part` meets its contract: nothing is there, or no more than n bytes, or more.
+-- `naming::names::part` meets its contract: nothing is there, or no more than n bytes, or more.
 -- Assumes nothing.
 use Prim.Native.Nat.{_+_, _-_}
 use mathlib.Core.Path.{_≡_, sym}

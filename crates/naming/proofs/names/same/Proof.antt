@@ -1,4 +1,4 @@
--- `opmsg::names::same` meets its contract. The loop's invariant: what is left of both texts tells whether they are the same.
+-- `naming::names::same` meets its contract. The loop's invariant: what is left of both texts tells whether they are the same.
 -- The measure is what is left of the first. Assumes nothing.
 use Prim.Native.Nat.{_-_, _≤_}
 use mathlib.Core.Path.{_≡_, refl, sym, _∙_}

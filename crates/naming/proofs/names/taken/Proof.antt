@@ -1,4 +1,4 @@
--- `opmsg::names::taken` meets its contract: the body's names are looked at, and then the identifiers.
+-- `naming::names::taken` meets its contract: the body's names are looked at, and then the identifiers.
 -- Assumes nothing.
 use Prim.Native.Nat.{_+_, _-_}
 use mathlib.Core.Bool.{true, false}
