@@ -1,37 +1,18 @@
--- The laws of the register. Each step is linear over xor, so steps may be taken of a number's parts apart; and a message may be taken in parts.
+-- The laws of the register: a byte may be taken by its halves, and a message in parts.
 -- Assumes nothing.
 use mathlib.Core.Path.{_≡_, refl, sym, ap, _∙_}
 use mathlib.Core.List.{List, [], _∷_, _++_}
-use Prim.Native.Nat.{ℕ, zero, suc, _+_, _-_, _*_, _/_, _%_, _^_, _≤_, _<_}
-use native.Mathlib.Nat.{suc-add, zero-add, zero-mul, mul-one, le-refl}
+use Prim.Native.Nat.{ℕ, _+_, _-_, _*_, _/_, _%_, _^_, _≤_, _<_}
+use native.Mathlib.Nat.{le-refl}
 use native.Mathlib.Numerals.{add-one}
 use native.Mathlib.Omega.{arith}
 use lib.ListN.{length, take, drop, getD, length-drop, take-append-drop}
 use lib.Seq.{take-all, drop-cons, drop-length, drop-drop}
 use lib.Bits.{bitXor}
-use Rattle.crc32c.specs.Crc.{shiftBit, shiftBits, intoByte, registerAfter}
-use Rattle.crc32c.proofs.Xor.{xor-assoc, xor-split, step-linear, step-even}
-
--- ---- the register's steps
-
-pub linear : (n a b : ℕ) → shiftBits n (bitXor a b) ≡ bitXor (shiftBits n a) (shiftBits n b)
-unfolding shiftBits shiftBit
-linear zero a b = refl
-linear (suc n) a b = ap (shiftBits n) (step-linear _ a b) ∙ linear n (shiftBit a) (shiftBit b)
-
-pub shift-add : (m n c : ℕ) → shiftBits (m + n) c ≡ shiftBits n (shiftBits m c)
-unfolding shiftBits
-shift-add zero n c = ap (λ (k : ℕ). shiftBits k c) (zero-add n)
-shift-add (suc m) n c = ap (λ (k : ℕ). shiftBits k c) (suc-add m n) ∙ shift-add m n (shiftBit c)
-
--- zeros that stand below a number fall out, and leave the number
-pub shift-up : (n a : ℕ) → shiftBits n (a * 2 ^ n) ≡ a
-unfolding shiftBits shiftBit
-shift-up zero a = mul-one a
-shift-up (suc n) a = ap (shiftBits n) (step-even _ a n) ∙ shift-up n a
-
-pub shift-zero : (n : ℕ) → shiftBits n 0 ≡ 0
-shift-zero n = simp zero-mul at (shift-up n 0)
+use Rattle.crc32c_tables.specs.Steps.{shiftBits}
+use Rattle.crc32c_tables.proofs.Laws.{linear, shift-add, shift-up}
+use Rattle.crc32c.specs.Crc.{intoByte, registerAfter}
+use Rattle.crc32c_tables.proofs.Xor.{xor-assoc, xor-split}
 
 -- what a table holds: the step of the low digits alone
 shift-low : (n c : ℕ) → shiftBits n c ≡ bitXor (c / 2 ^ n) (shiftBits n (c % 2 ^ n))

@@ -1,5 +1,2 @@
-pub mod Xor
 pub mod Laws
 pub mod Words
-pub mod Tabulate
-pub mod Matched

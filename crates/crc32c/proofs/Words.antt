@@ -10,10 +10,12 @@ use lib.ListN.{length, take, drop, getD, length-take, length-drop, take-append-d
 use lib.Seq.{take-all, getD-drop, drop-drop}
 use lib.Pow.{shr-shr}
 use lib.Bits.{bitXor, xor-comm, xor-zero-r, xor-shifted}
-use Rattle.crc32c.specs.Crc.{shiftBits, intoByte, registerAfter}
+use Rattle.crc32c_tables.specs.Steps.{shiftBits}
+use Rattle.crc32c.specs.Crc.{intoByte, registerAfter}
 use Rattle.crc32c.specs.Word.{littleEndian}
-use Rattle.crc32c.proofs.Xor.{xor-assoc, xor-split}
-use Rattle.crc32c.proofs.Laws.{linear, shift-add, shift-up, shift-zero, register-append}
+use Rattle.crc32c_tables.proofs.Xor.{xor-assoc, xor-split}
+use Rattle.crc32c_tables.proofs.Laws.{linear, shift-add, shift-up, shift-zero}
+use Rattle.crc32c.proofs.Laws.{register-append}
 
 -- ---- a number of four bytes, and of eight
 

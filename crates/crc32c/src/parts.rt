@@ -4,9 +4,9 @@ ghost use mathlib.Core.Path.{_≡_};
 ghost use Prim.Native.Nat.{_+_, _-_, _*_, _/_, _%_, _^_, _<_, _≤_};
 ghost use lib.ListN.{length, take, drop};
 ghost use lib.Bits.{bitXor};
-ghost use Rattle.crc32c.specs.Crc.{shiftBits, intoByte, registerAfter};
+ghost use Rattle.crc32c_tables.specs.Steps.{shiftBits};
+ghost use Rattle.crc32c.specs.Crc.{intoByte, registerAfter};
 ghost use Rattle.crc32c.specs.Word.{littleEndian};
-use crate::tables;
 
 // A byte as a number of 64 bits.
 fn wide(b: u8) -> u64
@@ -52,7 +52,7 @@ fn near(x: u64) -> u32
     let mut k = 8;
     while 0 < k {
         k -= 1;
-        r = r ^ tables::near(place(x, k));
+        r = r ^ crc32c_tables::near(place(x, k));
     }
     r
 }
@@ -65,7 +65,7 @@ fn far(near: u32, x: u64) -> u32
     let mut k = 8;
     while 0 < k {
         k -= 1;
-        r = r ^ tables::far(place(x, k));
+        r = r ^ crc32c_tables::far(place(x, k));
     }
     r
 }
@@ -83,7 +83,9 @@ fn byte(register: u32, b: u8) -> u32
     ensures { λ r. ⌜ r ≡ intoByte register b ⌝ }
 {
     let x = register ^ (b as u32);
-    (x >> 8) ^ tables::high_half((x % 256 / 16) as usize) ^ tables::low_half((x % 16) as usize)
+    (x >> 8)
+        ^ crc32c_tables::high_half((x % 256 / 16) as usize)
+        ^ crc32c_tables::low_half((x % 16) as usize)
 }
 
 // The register after the bytes s, one by one.

@@ -4,7 +4,7 @@ use mathlib.Core.Path.{sym, ap, ap₂, _∙_}
 use Prim.Native.Nat.{ℕ}
 use borrow.Author.Needs.{needs}
 use lib.Bits.{bitXor}
-use Rattle.crc32c.specs.Crc.{shiftBits}
+use Rattle.crc32c_tables.specs.Steps.{shiftBits}
 use Rattle.crc32c.proofs.Words.{register-words}
 use Rattle.crc32c.proofs.parts.sixteen.Statement.{statement}
 use Rattle.crc32c.proofs.parts.sixteen.Tie as tie

@@ -1,17 +1,17 @@
--- `crc32c::tables::far` meets its contract: antt computes that its constants are those of the list, whose rule is a law.
+-- `crc32c_tables::far` meets its contract: antt computes that its constants are those of the list, whose rule is a law.
 -- Assumes nothing.
 use borrow.Fn.Run.{Over}
 use borrow.Fn.World.{World}
 use borrow.Fn.Written as written
 use contract.Running.{tablesOf, givenOf}
-use Rattle.crc32c.specs.Crc.{shiftBit, shiftBits}
-use Rattle.crc32c.proofs.Matched.{matched}
-use Rattle.crc32c.proofs.Tabulate.{powers, rows, rows-rule}
-use Rattle.crc32c.proofs.tables.far.Code as code
-use Rattle.crc32c.proofs.tables.far.Key as key
-use Rattle.crc32c.proofs.tables.far.Kinds as kinds
-use Rattle.crc32c.proofs.tables.far.Reads as reads
-use Rattle.crc32c.proofs.tables.far.Statement.{statement}
+use Rattle.crc32c_tables.specs.Steps.{shiftBit, shiftBits}
+use Rattle.crc32c_tables.proofs.Matched.{matched}
+use Rattle.crc32c_tables.proofs.Tabulate.{powers, rows, rows-rule}
+use Rattle.crc32c_tables.proofs.far.Code as code
+use Rattle.crc32c_tables.proofs.far.Key as key
+use Rattle.crc32c_tables.proofs.far.Kinds as kinds
+use Rattle.crc32c_tables.proofs.far.Reads as reads
+use Rattle.crc32c_tables.proofs.far.Statement.{statement}
 
 pub far-spec : {M : Type 1} → statement M
 unfolding code.routine tablesOf shiftBits shiftBit

@@ -1,17 +1,17 @@
--- `crc32c::tables::near` meets its contract: antt computes that its constants are those of the list, whose rule is a law.
+-- `crc32c_tables::near` meets its contract: antt computes that its constants are those of the list, whose rule is a law.
 -- Assumes nothing.
 use borrow.Fn.Run.{Over}
 use borrow.Fn.World.{World}
 use borrow.Fn.Written as written
 use contract.Running.{tablesOf, givenOf}
-use Rattle.crc32c.specs.Crc.{shiftBit, shiftBits}
-use Rattle.crc32c.proofs.Matched.{matched}
-use Rattle.crc32c.proofs.Tabulate.{powers, rows, rows-rule}
-use Rattle.crc32c.proofs.tables.near.Code as code
-use Rattle.crc32c.proofs.tables.near.Key as key
-use Rattle.crc32c.proofs.tables.near.Kinds as kinds
-use Rattle.crc32c.proofs.tables.near.Reads as reads
-use Rattle.crc32c.proofs.tables.near.Statement.{statement}
+use Rattle.crc32c_tables.specs.Steps.{shiftBit, shiftBits}
+use Rattle.crc32c_tables.proofs.Matched.{matched}
+use Rattle.crc32c_tables.proofs.Tabulate.{powers, rows, rows-rule}
+use Rattle.crc32c_tables.proofs.near.Code as code
+use Rattle.crc32c_tables.proofs.near.Key as key
+use Rattle.crc32c_tables.proofs.near.Kinds as kinds
+use Rattle.crc32c_tables.proofs.near.Reads as reads
+use Rattle.crc32c_tables.proofs.near.Statement.{statement}
 
 pub near-spec : {M : Type 1} → statement M
 unfolding code.routine tablesOf shiftBits shiftBit

@@ -3,10 +3,10 @@
 // so it is compiled into the loop, and the loop is unrolled.
 ghost use mathlib.Core.Path.{_≡_};
 ghost use Prim.Native.Nat.{_+_, _*_, _/_, _%_, _<_};
-ghost use Rattle.crc32c.specs.Crc.{shiftBits};
+ghost use Rattle.crc32c_tables.specs.Steps.{shiftBits};
 
 // 8 to 64 steps of a byte: entry b of row r is 8 (r + 1) steps of b.
-pub(crate) fn near(i: usize) -> u32
+pub fn near(i: usize) -> u32
     requires { ⌜ i < 2048 ⌝ }
     ensures { λ r. ⌜ r ≡ shiftBits (8 + 8 * (i / 256)) (i % 256) ⌝ }
 {
@@ -2064,7 +2064,7 @@ pub(crate) fn near(i: usize) -> u32
 }
 
 // 72 to 128 steps of a byte.
-pub(crate) fn far(i: usize) -> u32
+pub fn far(i: usize) -> u32
     requires { ⌜ i < 2048 ⌝ }
     ensures { λ r. ⌜ r ≡ shiftBits (72 + 8 * (i / 256)) (i % 256) ⌝ }
 {
@@ -4122,7 +4122,7 @@ pub(crate) fn far(i: usize) -> u32
 }
 
 // 8 steps of half a byte.
-pub(crate) fn low_half(i: usize) -> u32
+pub fn low_half(i: usize) -> u32
     requires { ⌜ i < 16 ⌝ }
     ensures { λ r. ⌜ r ≡ shiftBits 8 i ⌝ }
 {
@@ -4148,7 +4148,7 @@ pub(crate) fn low_half(i: usize) -> u32
 }
 
 // 4 steps of half a byte.
-pub(crate) fn high_half(i: usize) -> u32
+pub fn high_half(i: usize) -> u32
     requires { ⌜ i < 16 ⌝ }
     ensures { λ r. ⌜ r ≡ shiftBits 4 i ⌝ }
 {

@@ -10,8 +10,8 @@ use lib.Bits.{bitXor, xor-comm, xor-shifted}
 use lib.ListN.{length, getD, List·getD-append}
 use lib.Seq.{getD-append-add}
 use lib.Pow.{pow-pos}
-use Rattle.crc32c.specs.Crc.{shiftBits}
-use Rattle.crc32c.proofs.Laws.{linear, shift-add, shift-zero}
+use Rattle.crc32c_tables.specs.Steps.{shiftBits}
+use Rattle.crc32c_tables.proofs.Laws.{linear, shift-add, shift-zero}
 
 -- m steps of n powers of two, from the kth
 abbrev pub powers : ℕ → ℕ → ℕ → List ℕ
