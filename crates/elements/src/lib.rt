@@ -6,6 +6,7 @@ use values::skip;
 use values::unlisted;
 use values::value_of;
 use wire::until_zero;
+use wire::word;
 ghost use mathlib.Core.Path.{_≡_};
 ghost use Prim.Native.Nat.{_+_, _^_, _<_, _≤_};
 ghost use lib.ListN.{length};
@@ -61,8 +62,30 @@ pub fn head(s: &[u8], at: usize, count: u32) -> Outline
     }
 }
 
-// How many bytes the element at the start of s takes, in a document that was read: it is not checked again, and a document in it is passed over by its length.
+// How many bytes the element at the start of s takes, in a document that was read: a document in it is passed over by its length.
 pub fn element_size(s: &[u8]) -> usize
+    ensures { λ r. ⌜ r ≡ elementSize (now (s .entry)) ⌝ }
+{
+    if s.len() == 0 {
+        return 0;
+    }
+    match head(s, 0, 0) {
+        Outline::Plain { start, size } => start + size,
+        Outline::Embedded { start } => start + word(&s[start..]) as usize,
+        Outline::Scoped { start, from, size } => {
+            let rest = &s[start..];
+            if from + word(&rest[from..size]) as usize == size {
+                start + size
+            } else {
+                0
+            }
+        }
+        Outline::Refused(_, _) => 0,
+    }
+}
+
+// The same for an element that was read: by the lengths that it states, and nothing is checked again.
+pub fn skip_element(s: &[u8]) -> usize
     ensures { λ r. ⌜ (0 < elementSize (now (s .entry)) → elementSize (now (s .entry)) ≤ length (now (s .entry)) → r ≡ elementSize (now (s .entry))) ⌝ }
 {
     if s.len() == 0 {

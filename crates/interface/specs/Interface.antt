@@ -15,7 +15,7 @@ use Rattle.numbers.specs.Numbers.{viewNumbers, viewSize}
 unfoldable pub editionOf : ℕ → ℕ → Edition
 editionOf bits sequences = record { bits = bits; sequences = not (eqb sequences 0) }
 
--- room for them is asked after the call's own refusals
+-- room for the numbers of a view is asked after the call's own refusals
 unfoldable pub withRoom : {A : Type 0} → ℕ → Outcome A → Outcome A
 withRoom room o = do
   a ← o

@@ -1,5 +1,5 @@
 // Checks 22 to 24: names that must differ.
-use elements::element_size;
+use elements::skip_element;
 use protocol::Sequence;
 use protocol::Verdict;
 use protocol::refused;
@@ -100,7 +100,7 @@ fn named(xs: &[u8], k: usize, text: &[u8]) -> bool
         if same(text, name(rest)) {
             return true;
         }
-        i += element_size(rest);
+        i += skip_element(rest);
         left -= 1;
     }
     false
@@ -128,7 +128,7 @@ pub fn body_names(xs: &[u8], at: usize, marks: &mut [u64; 32]) -> Verdict
         }
         marks[mark / 64] = old | set;
         k += 1;
-        i += element_size(rest);
+        i += skip_element(rest);
     }
     Verdict::Accepted
 }

@@ -1,4 +1,4 @@
--- What the answers of the private functions stand for in document 01's terms, and what those functions are given.
+-- What the functions' answers stand for in document 01's terms, and what they are given.
 -- Assumes nothing: these are definitions.
 use Prim.Native.Nat.{ℕ, _+_, _-_, _≤_}
 use mathlib.Core.List.{List}

@@ -1,79 +1,108 @@
--- `elements::element_size` meets its contract: where the element was read, each step passes over a part of it.
+-- `elements::element_size` meets its contract: each arm is told what the element is but for its documents. Where there is no byte, there is no element.
 -- Assumes nothing.
-use Prim.Native.Nat.{ℕ, _+_, _-_}
+use Prim.Native.Nat.{ℕ}
 use native.Mathlib.Omega.{arith}
-use mathlib.Core.Path.{_≡_, ap, _∙_}
-use lib.ListN.{length, take, drop}
+use mathlib.Core.List.{List, [], _∷_}
+use mathlib.Core.Path.{_≡_, refl, sym}
+use lib.ListN.{length}
 use borrow.Author.Needs.{needs}
-use Rattle.wire.specs.Bytes.{untilZero}
-use Rattle.wire.proofs.Outcome.{not-ok, ok-same}
-use Rattle.wire.proofs.Bytes.{until-le}
+use borrow.Author.Tests.{eq-eqb, ne-eqb}
+use Rattle.wire.specs.Outcome.{refuse, _>>=_}
+use Rattle.wire.specs.Bytes.{oneOf}
 use Rattle.wire.proofs.Parts.{rest-part}
-use Rattle.values.specs.Value.{Rule}
-use Rattle.values.specs.Answers.{ruleOf, span}
-use Rattle.elements.proofs.Span.{Passed, element-is}
+use Rattle.values.specs.Value.{table, ruleIn}
+use Rattle.elements.specs.Element.{elementSize, sizeOf, inside, head, element, maxElements}
 use Rattle.elements.proofs.element_size.Statement.{statement}
 use Rattle.elements.proofs.element_size.Tie as tie
 
-until-is : (c : tie.After-until-zero) →
-    c .until-zero .result ≡ untilZero (drop 1 (c .before .before .before .before .args .s .now))
-until-is c = rw (rest-part 1 (c .before .before .before .before .args .s .now)) at (c .until-zero .ensures)
+none : (xs : List ℕ) → length xs ≡ 0 → elementSize xs ≡ 0
+unfolding elementSize sizeOf element head maxElements table ruleIn oneOf _>>=_ refuse
+none [] h = refl
+none (x ∷ xs) h = absurd (omega arith)
 
-size-is : (c : tie.After-skip) →
-    let xs = c .before .before .before .before .before .before .before .before .before .before .before .before .args .s .now in
-    (p : Passed xs) → c .skip .result ≡ span (drop (untilZero (drop 1 xs) + 2) xs) (p .value)
-size-is c p =
-    let k = c .before .before .before in
-    let u = k .before .before .before .before .before in
-    let xs = u .before .before .before .before .args .s .now in
-    let v = 0 + (untilZero (drop 1 xs) + 2) in
-    let ys = drop (untilZero (drop 1 xs) + 2) xs in
-    let part : take (length xs - (u .until-zero .result + 2)) (drop (u .until-zero .result + 2) xs) ≡ ys =
-    rest-part (u .until-zero .result + 2) xs ∙ ap (λ (n : ℕ). drop (n + 2) xs) (until-is u) in
-    let e : ruleOf (k .kind .given .0 .0) ≡ p .rule = ok-same (rw (k .kind .given .1) at (k .before .before .kind-of .ensures 0) ∙ p .listed) in
-    (rw part at (c .skip .ensures v (p .value))) (ap (λ (f : Rule). f v ys) e ∙ p .kept)
+returns : tie.Need-returns
+returns c = sym (none (c .before .before .args .s .now) (c .if1 .taken))
+
+-- where the value lies is told in each arm by what `head` ensures
+add-result : tie.Need-add-result
+add-result c = omega (arith, rw (c .before .start .given .1) at (c .before .before .before .head .ensures .1))
+
+sub-word : tie.Need-sub-word
+sub-word c = omega (arith, rw (c .before .start2 .given .1) at (c .before .before .before .head .ensures .1))
+
+add-result-2 : tie.Need-add-result-2
+add-result-2 c = omega (arith, rw (c .before .before .before .start2 .given .1) at (c .before .before .before .before .before .head .ensures .1))
+
+sub-rest : tie.Need-sub-rest
+sub-rest c = omega (arith, rw (c .before .start3 .given .1) at (c .before .before .before .head .ensures .1))
+
+sub-word-2 : tie.Need-sub-word-2
+sub-word-2 c = omega (arith, rw (c .before .before .start3 .given .1) at (c .before .before .before .before .head .ensures .1))
+
+part-word-end-2 : tie.Need-part-word-end-2
+part-word-end-2 c = omega (arith, rw (c .before .before .start3 .given .1) at (c .before .before .before .before .head .ensures .1), c .rest .given .2)
 
 add-if2 : tie.Need-add-if2
-add-if2 c = omega (arith, until-le (take (length (c .before .before .before .before .args .s .now) - 1) (drop 1 (c .before .before .before .before .args .s .now))), c .before .until-zero-arg .given .2)
+add-if2 c = omega (arith, rw (c .before .before .before .before .start3 .given .1) at (c .before .before .before .before .before .before .head .ensures .1))
+
+add-result-3 : tie.Need-add-result-3
+add-result-3 c = omega (arith, rw (c .before .before .before .before .before .start3 .given .1) at (c .before .before .before .before .before .before .before .head .ensures .1))
 
 returns-2 : tie.Need-returns-2
-returns-2 c = λ h l. absurd (omega (arith, element-is _ h .named, until-is (c .before), c .if2 .taken))
+unfolding elementSize sizeOf element inside _>>=_ refuse
+returns-2 c = rw (elementSize, ← c .before .before .before .head .ensures .0, c .before .start .given .1)
 
 returns-3 : tie.Need-returns-3
-returns-3 c = λ h l. not-ok (rw (c .enum-told .given .1) at (c .before .before .kind-of .ensures 0) ∙ element-is _ h .listed)
+unfolding elementSize sizeOf element inside _>>=_ refuse
+returns-3 c =
+    let b = c .before .before .before in
+    rw (elementSize, ← b .before .before .head .ensures .0, b .start2 .given .1, ← rest-part (b .start2 .given .0 .0) (b .before .before .before .before .before .args .s .now), ← c .word .ensures)
 
 returns-4 : tie.Need-returns-4
-returns-4 c = λ h l.
-    let p = element-is _ h in
-    absurd (omega (arith, p .is, size-is (c .before) p, until-is (c .before .before .before .before .before .before .before .before .before), c .if3 .taken))
+unfolding elementSize sizeOf element inside _>>=_ refuse
+returns-4 c =
+    let b = c .before .before .before .before .before in
+    rw (elementSize, ← b .before .before .head .ensures .0, b .start3 .given .1, ← rest-part (b .start3 .given .0 .0) (b .before .before .before .before .before .args .s .now), ← c .before .word2 .ensures, eq-eqb _ _ (c .if2 .taken))
 
 returns-5 : tie.Need-returns-5
-returns-5 c = λ h l.
-    let p = element-is _ h in
-    omega (arith, p .is, size-is (c .before) p, until-is (c .before .before .before .before .before .before .before .before .before))
+unfolding elementSize sizeOf element inside _>>=_ refuse
+returns-5 c =
+    let b = c .before .before .before .before .before in
+    rw (elementSize, ← b .before .before .head .ensures .0, b .start3 .given .1, ← rest-part (b .start3 .given .0 .0) (b .before .before .before .before .before .args .s .now), ← c .before .word2 .ensures, ne-eqb _ _ (c .if2 .left))
+
+returns-6 : tie.Need-returns-6
+unfolding elementSize sizeOf element _>>=_
+returns-6 c = rw (elementSize, ← c .before .before .head .ensures .0, c .enum-told .given .1)
 
 pub element-size-spec : {M : Type 1} → statement M
 element-size-spec =
     tie.close
     (tie.spec
+    returns
+    (λ c κs. search needs)
     (λ c. search needs)
+    add-result
     (λ c. search needs)
-    (λ c. search needs)
+    sub-word
+    sub-word
     (λ c. search needs)
     (λ c κs. search needs)
+    (λ c. search needs)
+    add-result-2
+    (λ c. search needs)
+    sub-rest
+    sub-rest
+    (λ c. search needs)
+    sub-word-2
+    sub-word-2
+    part-word-end-2
+    (λ c κs. search needs)
+    (λ c. search needs)
     add-if2
+    add-result-3
+    (λ c. search needs)
     returns-2
-    (λ c. search needs)
-    (λ c. search needs)
-    (λ c κs. search needs)
-    (λ c. search needs)
-    (λ c. search needs)
     returns-3
-    (λ c. search needs)
-    (λ c. search needs)
-    (λ c. search needs)
-    (λ c κs. search needs)
-    (λ c. search needs)
     returns-4
-    (λ c. search needs)
-    returns-5)
+    returns-5
+    returns-6)

@@ -22,14 +22,14 @@ Inv-loop xs at marks₀ k₀ i₀ marks k i = Listed at xs i k marks
 abbrev μ-loop : tie.MeasureT-loop
 μ-loop xs at marks₀ k₀ i₀ marks k i = length xs - i
 
-size-is : (c : tie.After-element-size Inv-loop μ-loop) →
+size-is : (c : tie.After-skip-element Inv-loop μ-loop) →
     let l = c .before .before .before .before .before .before .before .before in
-    c .element-size .result ≡ elementSize (drop (l .loop .i) (l .before .before .args .xs .now))
+    c .skip-element .result ≡ elementSize (drop (l .loop .i) (l .before .before .args .xs .now))
 size-is c =
     let t = c .before .before .before .before .before .before .before in
     let l = t .before in
     let s = reached-size _ _ _ (l .loop .inv .reached) (t .loop-test .taken) in
-    (rw (rest-part (l .loop .i) (l .before .before .args .xs .now)) at (c .element-size .ensures)) (s .0) (s .1)
+    (rw (rest-part (l .loop .i) (l .before .before .args .xs .now)) at (c .skip-element .ensures)) (s .0) (s .1)
 
 name-is : (c : tie.After-slot Inv-loop μ-loop) →
     let l = c .before .before .before .before in
