@@ -7,13 +7,13 @@ use mathlib.Core.List.{List, [], _∷_, _++_, append-nil, append-assoc}
 use native.Mathlib.Omega.{arith}
 use lib.ListN.{length, getD, take, drop, set, length-set}
 use lib.Seq.{getD-set-same, getD-set-other}
-use lib.Bits.{bitOr}
+use lib.Bits.{bitAnd, bitOr}
 use lib.Dec.{eqb}
-use borrow.Author.Tests.{eqb-true, eqb-false}
+use borrow.Author.Tests.{eqb-true, eqb-false, eq-eqb}
 use Rattle.wire.specs.Outcome.{ok, refused}
 use Rattle.wire.proofs.Outcome.{pass, stop}
 use Rattle.protocol.specs.Names.{Name, sameText, among, distinct, texts}
-use Rattle.naming.specs.Answers.{slotOf, Marked, Marks}
+use Rattle.naming.specs.Answers.{slotOf, marked, marking, Marks}
 use Rattle.protocol.specs.declared.Verdict.{Verdict}
 use Rattle.protocol.specs.declared.Verdict.the-variants.{Accepted, Refused}
 use Rattle.naming.proofs.Marks.{holds-self, holds-more}
@@ -32,37 +32,37 @@ slot-small t = omega arith
 pub marks-none : (marks : List ℕ) → length marks ≡ 32 → Marks [] marks
 marks-none marks h = record { size = h; shows = λ t h. unfold among in not-both refl h }
 
--- marks with one more: the word that it changes, and the whole
+-- the word that one more mark changes
 abbrev one-more : List ℕ → ℕ → ℕ
 one-more marks slot = bitOr (getD marks (slot / 64) 0) (2 ^ (slot % 64))
 
-abbrev pub marking : List ℕ → ℕ → List ℕ
-marking marks slot = set marks (slot / 64) (one-more marks slot)
-
-mark-made : (marks : List ℕ) (slot : ℕ) → slot / 64 < length marks → Marked (marking marks slot) slot
-mark-made marks slot h = rw (getD-set-same marks (slot / 64) (one-more marks slot) 0 h) (holds-self (getD marks (slot / 64) 0) (2 ^ (slot % 64)))
+mark-made : (marks : List ℕ) (slot : ℕ) → slot / 64 < length marks → marked (marking marks slot) slot ≡ true
+unfolding marked marking
+mark-made marks slot h = rw (getD-set-same marks (slot / 64) (one-more marks slot) 0 h) (eq-eqb _ _ (holds-self (getD marks (slot / 64) 0) (2 ^ (slot % 64))))
 
 -- a mark stays when another is made
-mark-stays : (marks : List ℕ) (slot j : ℕ) → slot / 64 < length marks → Marked marks j → Marked (marking marks slot) j
+mark-stays : (marks : List ℕ) (slot j : ℕ) → slot / 64 < length marks → marked marks j ≡ true → marked (marking marks slot) j ≡ true
+unfolding marked marking
 mark-stays marks slot j h m = go (eqb (j / 64) (slot / 64)) refl
   where
-    go : (b : Bool) → eqb (j / 64) (slot / 64) ≡ b → Marked (marking marks slot) j
+    go : (b : Bool) → eqb (j / 64) (slot / 64) ≡ b → marked (marking marks slot) j ≡ true
     go true e =
         let same : j / 64 ≡ slot / 64 = eqb-true _ _ e in
-        rw (same, getD-set-same marks (slot / 64) (one-more marks slot) 0 h) (holds-more (getD marks (slot / 64) 0) (2 ^ (slot % 64)) (2 ^ (j % 64)) (rw same at m))
+        rw (same, getD-set-same marks (slot / 64) (one-more marks slot) 0 h)
+        (eq-eqb _ _ (holds-more (getD marks (slot / 64) 0) (2 ^ (slot % 64)) (2 ^ (j % 64)) (eqb-true (bitAnd (getD marks (slot / 64) 0) (2 ^ (j % 64))) (2 ^ (j % 64)) (rw same at m))))
     go false e = rw (getD-set-other marks (slot / 64) (j / 64) (one-more marks slot) 0 (eqb-false _ _ e)) m
 
 mark : {ts : List (List ℕ)} {marks : List ℕ} (x : List ℕ) → Marks ts marks → Marks (x ∷ ts) (marking marks (slotOf x))
 mark {ts} {marks} x m =
     record {
-      size = length-set marks (slotOf x / 64) (one-more marks (slotOf x)) ∙ m .size;
+      size = unfold marking in length-set marks (slotOf x / 64) (one-more marks (slotOf x)) ∙ m .size;
       shows = λ t h. go t (sameText t x) refl (sym (among-cons x ts t) ∙ h);
     }
   where
     inside : slotOf x / 64 < length marks
     inside = omega (arith, m .size, slot-small x)
 
-    go : (t : List ℕ) (b : Bool) → sameText t x ≡ b → (sameText t x || among ts t) ≡ true → Marked (marking marks (slotOf x)) (slotOf t)
+    go : (t : List ℕ) (b : Bool) → sameText t x ≡ b → (sameText t x || among ts t) ≡ true → marked (marking marks (slotOf x)) (slotOf t) ≡ true
     go t true e h = rw (same-text t x e) (mark-made marks (slotOf x) inside)
     go t false e h = mark-stays marks (slotOf x) (slotOf t) inside (m .shows t (rw e at h))
 
@@ -70,11 +70,11 @@ mark {ts} {marks} x m =
 marks-same : {ts us : List (List ℕ)} {marks : List ℕ} → ((t : List ℕ) → among ts t ≡ among us t) → Marks ts marks → Marks us marks
 marks-same e m = record { size = m .size; shows = λ t h. m .shows t (e t ∙ h) }
 
-no-mark : {ts : List (List ℕ)} {marks : List ℕ} (t : List ℕ) → Marks ts marks → (Marked marks (slotOf t) → ⊥) → among ts t ≡ false
+no-mark : {ts : List (List ℕ)} {marks : List ℕ} (t : List ℕ) → Marks ts marks → marked marks (slotOf t) ≡ false → among ts t ≡ false
 no-mark {ts} t m h = go (among ts t) refl
   where
     go : (b : Bool) → among ts t ≡ b → among ts t ≡ false
-    go true e = absurd (h (m .shows t e))
+    go true e = not-both h (m .shows t e)
     go false e = e
 
 -- ---- the first k of the names ns differ from each other and from the texts of a base
@@ -92,7 +92,7 @@ module _ (number : ℕ) (base : List (List ℕ)) (ns : List Name) where
 
   module _ (k : ℕ) {marks : List ℕ} (m : Met number base ns k marks) where
     -- a text without a mark is new
-    pub met-unmarked : (t : List ℕ) → (Marked marks (slotOf t) → ⊥) → among (base ++ texts (take k ns)) t ≡ false
+    pub met-unmarked : (t : List ℕ) → marked marks (slotOf t) ≡ false → among (base ++ texts (take k ns)) t ≡ false
     met-unmarked t h = sym (m .those t) ∙ no-mark t (m .marked) h
 
     module _ (n : Name) (r : List Name) (next : drop k ns ≡ n ∷ r) where

@@ -13,9 +13,9 @@ use Rattle.wire.specs.Outcome.{ok, refused}
 use Rattle.elements.specs.Element.{elementSize}
 use Rattle.protocol.specs.Names.{Name, sameText, among, distinct, elementNames, texts}
 use Rattle.protocol.specs.Answers.{Filled, none, more}
-use Rattle.naming.specs.Answers.{nameText, namesOf, slotOf, Marked, Marks}
+use Rattle.naming.specs.Answers.{nameText, namesOf, slotOf, marked, marking, Marks}
 use Rattle.naming.proofs.Texts.{among-cons, take-cons, drop-next, texts-take}
-use Rattle.naming.proofs.Distinct.{marking, marks-none, Met, met-none, met-unmarked, met-next, met-again, met-all, met-marks}
+use Rattle.naming.proofs.Distinct.{marks-none, Met, met-none, met-unmarked, met-next, met-again, met-all, met-marks}
 
 -- bytes that elements fill, from the second element on
 filled-next : {xs : List ℕ} → Filled xs → 0 < length xs → (0 < elementSize xs) × (elementSize xs ≤ length xs) × Filled (drop (elementSize xs) xs)
@@ -168,7 +168,7 @@ module _ (at : ℕ) (xs : List ℕ) where
     before = texts-take k (elementNames (length xs) at xs) ∙ ap (take k) (names-of (length xs) at xs (l .whole) (omega arith))
 
     -- a name without a mark is new
-    pub listed-unmarked : (t : List ℕ) → (Marked marks (slotOf t) → ⊥) → among (take k (namesOf xs)) t ≡ false
+    pub listed-unmarked : (t : List ℕ) → marked marks (slotOf t) ≡ false → among (take k (namesOf xs)) t ≡ false
     listed-unmarked t h = rw before at (met-unmarked 23 [] (elementNames (length xs) at xs) k (l .met) t h)
 
     module _ (inside : i < length xs) where

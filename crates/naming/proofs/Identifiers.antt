@@ -1,7 +1,7 @@
 -- Laws of identifiers: one after the other, by a table of sequences.
 -- Assumes nothing.
 use Prim.Native.Nat.{ℕ, _+_, _≤_, _<_}
-use mathlib.Core.Bool.{true, false, _||_, or-true}
+use mathlib.Core.Bool.{true, false, _||_}
 use mathlib.Core.Path.{_≡_, sym, _∙_, ap}
 use mathlib.Core.List.{List, [], _∷_, _++_, map}
 use native.Mathlib.Nat.{le-of-lt}
@@ -9,12 +9,12 @@ use native.Mathlib.Omega.{arith}
 use lib.ListN.{length, getD, take, drop, length-take, drop-of-length-le}
 use lib.Seq.{take-take}
 use Rattle.wire.specs.Outcome.{ok, refused}
-use Rattle.protocol.specs.Names.{Name, sameText, among, distinct, identifier, part, texts}
-use Rattle.naming.specs.Answers.{slotOf, Marked}
+use Rattle.protocol.specs.Names.{Name, sameText, among, distinct, identifier, texts}
+use Rattle.naming.specs.Answers.{slotOf, marked, marking}
 use Rattle.protocol.specs.View.{noSequence}
 use Rattle.protocol.specs.declared.Sequence.{Sequence}
 use Rattle.naming.proofs.Texts.{among-cons, among-append, front-next, map-take, map-drop}
-use Rattle.naming.proofs.Distinct.{marking, Met, met-unmarked, met-next, met-again, met-all}
+use Rattle.naming.proofs.Distinct.{Met, met-unmarked, met-next, met-again, met-all}
 
 -- the identifiers of the first k sequences of a table
 abbrev pub firstIdentifiers : List ℕ → List Sequence → ℕ → List Name
@@ -36,8 +36,8 @@ module _ (xs : List ℕ) (table : List Sequence) (i k : ℕ) where
 
     -- a text is compared with the next identifier, and then with the rest
     pub identified-next : (text : List ℕ) → among (texts (drop i (firstIdentifiers xs table k))) text
-        ≡ (sameText text (part xs (getD table i noSequence .name) (getD table i noSequence .«name_length»)) || among (texts (drop (i + 1) (firstIdentifiers xs table k))) text)
-    unfolding texts identifier
+        ≡ (sameText text (identifier xs (getD table i noSequence) .text) || among (texts (drop (i + 1) (firstIdentifiers xs table k))) text)
+    unfolding texts
     identified-next text = rw identifiers-next (among-cons _ _ _)
 
 -- ---- in code: the first i of k identifiers differ from each other and from the texts of a base
@@ -47,30 +47,23 @@ module _ (xs : List ℕ) (base : List (List ℕ)) (table : List Sequence) (k i :
   pub differ-all : k ≤ i → distinct 24 base (firstIdentifiers xs table k) ≡ ok tt
   differ-all h = met-all 24 base (firstIdentifiers xs table k) i m (identifiers-end xs table i k h)
 
-  module _ (h : i < k) (w : k ≤ length table) (text : List ℕ)
-      (is : text ≡ part xs (getD table i noSequence .name) (getD table i noSequence .«name_length»)) where
+  module _ (h : i < k) (w : k ≤ length table) (text : List ℕ) (is : text ≡ identifier xs (getD table i noSequence) .text) where
     before : among (base ++ texts (take i (firstIdentifiers xs table k))) text ≡ (among base text || among (texts (firstIdentifiers xs table i)) text)
     before = rw (identifiers-before xs table i k h w) (among-append base _ text)
 
     -- the next one is there already
-    again : among (base ++ texts (take i (firstIdentifiers xs table k))) text ≡ true
+    pub differ-again : (among base text || among (texts (firstIdentifiers xs table i)) text) ≡ true
         → distinct 24 base (firstIdentifiers xs table k) ≡ refused 24 (getD table i noSequence .name)
     unfolding identifier
-    again e = met-again 24 base (firstIdentifiers xs table k) i m _ _ (identifiers-next xs table i k h w) (rw is at e)
-
-    pub differ-named : among base text ≡ true → distinct 24 base (firstIdentifiers xs table k) ≡ refused 24 (getD table i noSequence .name)
-    differ-named e = again (before ∙ rw e)
-
-    pub differ-identified : among (texts (firstIdentifiers xs table i)) text ≡ true → distinct 24 base (firstIdentifiers xs table k) ≡ refused 24 (getD table i noSequence .name)
-    differ-identified e = again (before ∙ rw e (or-true (among base text)))
+    differ-again e = met-again 24 base (firstIdentifiers xs table k) i m _ _ (identifiers-next xs table i k h w) (rw is at (before ∙ e))
 
     -- the next one is new
     next : among (base ++ texts (take i (firstIdentifiers xs table k))) text ≡ false → Met 24 base (firstIdentifiers xs table k) (i + 1) (marking marks (slotOf text))
-    unfolding identifier
     next e = rw is (met-next 24 base (firstIdentifiers xs table k) i m _ _ (identifiers-next xs table i k h w) (rw is at e))
 
-    pub differ-unmarked : (Marked marks (slotOf text) → ⊥) → Met 24 base (firstIdentifiers xs table k) (i + 1) (marking marks (slotOf text))
+    pub differ-unmarked : marked marks (slotOf text) ≡ false → Met 24 base (firstIdentifiers xs table k) (i + 1) (marking marks (slotOf text))
     differ-unmarked e = next (met-unmarked 24 base (firstIdentifiers xs table k) i m text e)
 
-    pub differ-new : among base text ≡ false → among (texts (firstIdentifiers xs table i)) text ≡ false → Met 24 base (firstIdentifiers xs table k) (i + 1) (marking marks (slotOf text))
-    differ-new a b = next (before ∙ rw (a, b))
+    pub differ-new : (among base text || among (texts (firstIdentifiers xs table i)) text) ≡ false
+        → Met 24 base (firstIdentifiers xs table k) (i + 1) (marking marks (slotOf text))
+    differ-new e = next (before ∙ e)

@@ -3,9 +3,10 @@
 use Prim.Native.Nat.{ℕ, _+_, _-_, _*_, _/_, _%_, _^_}
 use mathlib.Core.List.{List}
 use mathlib.Core.Path.{_≡_}
-use mathlib.Core.Bool.{true}
-use lib.ListN.{take, drop, getD}
-use lib.Bits.{bitAnd}
+use mathlib.Core.Bool.{Bool, true}
+use lib.ListN.{take, drop, getD, set}
+use lib.Bits.{bitAnd, bitOr}
+use lib.Dec.{eqb}
 use Rattle.wire.specs.Bytes.{word, untilZero}
 use Rattle.protocol.specs.Names.{among, elementNames, texts}
 
@@ -25,10 +26,14 @@ unfoldable pub slotOf : List ℕ → ℕ
 slotOf t = spread (word t) (word (drop (lib.ListN.length t - 4) t))
 
 -- a slot's bit in marks, of which each word has 64, is set
-abbrev pub Marked : List ℕ → ℕ → Type 0
-Marked marks slot = bitAnd (getD marks (slot / 64) 0) (2 ^ (slot % 64)) ≡ 2 ^ (slot % 64)
+unfoldable pub marked : List ℕ → ℕ → Bool
+marked marks slot = eqb (bitAnd (getD marks (slot / 64) 0) (2 ^ (slot % 64))) (2 ^ (slot % 64))
+
+-- marks with that bit
+unfoldable pub marking : List ℕ → ℕ → List ℕ
+marking marks slot = set marks (slot / 64) (bitOr (getD marks (slot / 64) 0) (2 ^ (slot % 64)))
 
 -- marks of texts: a text without a mark at its slot is none of them
 pub record Marks (ts : List (List ℕ)) (marks : List ℕ) : Type 0 where
   pub size : lib.ListN.length marks ≡ 32
-  pub shows : (t : List ℕ) → among ts t ≡ true → Marked marks (slotOf t)
+  pub shows : (t : List ℕ) → among ts t ≡ true → marked marks (slotOf t) ≡ true

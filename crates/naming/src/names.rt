@@ -5,6 +5,7 @@ use protocol::Verdict;
 use protocol::refused;
 use wire::until_zero;
 use wire::word;
+ghost use mathlib.Core.Bool.{_||_};
 ghost use mathlib.Core.List.{List, [], map, _++_};
 ghost use mathlib.Core.Path.{_≡_};
 ghost use Prim.Native.Nat.{_+_, _-_, _%_, _^_, _<_, _≤_};
@@ -14,7 +15,7 @@ ghost use Rattle.protocol.specs.Sections.{Section};
 ghost use Rattle.protocol.specs.Read.{distinctNames};
 ghost use Rattle.protocol.specs.declared.Verdict.the-variants.{Accepted};
 ghost use Rattle.protocol.specs.Answers.{judged, Shows, Filled};
-ghost use Rattle.naming.specs.Answers.{nameText, namesOf, spread, slotOf, Marks};
+ghost use Rattle.naming.specs.Answers.{nameText, namesOf, spread, slotOf, marked, marking, Marks};
 
 // Two texts are the same.
 fn same(a: &[u8], b: &[u8]) -> bool
@@ -85,6 +86,19 @@ fn bit(slot: usize) -> u64
     1 << (slot % 64)
 }
 
+// Makes the mark of a text, and tells whether it was made before.
+fn mark(marks: &mut [u64; 32], text: &[u8]) -> bool
+    requires { ⌜ length (now marks) ≡ 32 ⌝ }
+    ensures tells { λ r. ⌜ r ≡ marked (now (marks .entry)) (slotOf (now (text .entry))) ⌝ }
+    ensures makes { λ _. ⌜ now (marks .exit) ≡ marking (now (marks .entry)) (slotOf (now (text .entry))) ⌝ }
+{
+    let place = slot(text);
+    let set = bit(place);
+    let old = marks[place / 64];
+    marks[place / 64] = old | set;
+    old & set == set
+}
+
 // A text is one of the first k names of the elements xs.
 fn named(xs: &[u8], k: usize, text: &[u8]) -> bool
     requires { ⌜ Filled (now xs) ⌝ }
@@ -117,20 +131,22 @@ pub fn body_names(xs: &[u8], at: usize, marks: &mut [u64; 32]) -> Verdict
     while i < xs.len() {
         let rest = &xs[i..];
         let text = name(rest);
-        let mark = slot(text);
-        let set = bit(mark);
-        let old = marks[mark / 64];
-        let hit = old & set;
-        if hit == set {
+        if mark(marks, text) {
             if named(xs, k, text) {
                 return refused(23, at + i + 1);
             }
         }
-        marks[mark / 64] = old | set;
         k += 1;
         i += skip_element(rest);
     }
     Verdict::Accepted
+}
+
+// The identifier of a sequence.
+fn identifier(xs: &[u8], q: Sequence) -> &[u8]
+    ensures { λ r. ⌜ now r ≡ identifier (now (xs .entry)) q .text ⌝ }
+{
+    part(xs, q.name as usize, q.name_length as usize)
 }
 
 // A text is the identifier of one of the first k sequences.
@@ -140,15 +156,23 @@ fn identified(xs: &[u8], sequences: [Sequence; 16], k: usize, text: &[u8]) -> bo
 {
     let mut i: usize = 0;
     while i < k {
-        let q = sequences[i];
-        let place = q.name as usize;
-        let n = q.name_length as usize;
-        if same(text, part(xs, place, n)) {
+        if same(text, identifier(xs, sequences[i])) {
             return true;
         }
         i += 1;
     }
     false
+}
+
+// A text is a name of the elements or the identifier of one of the first k sequences.
+fn met(xs: &[u8], elements: &[u8], sequences: [Sequence; 16], k: usize, text: &[u8]) -> bool
+    requires { ⌜ (k ≤ 16) × Filled (now elements) ⌝ }
+    ensures { λ r. ⌜ r ≡ (among (namesOf (now (elements .entry))) (now (text .entry)) || among (texts (map (identifier (now (xs .entry))) (take k sequences))) (now (text .entry))) ⌝ }
+{
+    if named(elements, elements.len(), text) {
+        return true;
+    }
+    identified(xs, sequences, k, text)
 }
 
 // Check 24, given the body's elements and the marks of their names.
@@ -166,22 +190,12 @@ fn identifiers_differ(
     let mut k: usize = 0;
     while k < count {
         let q = sequences[k];
-        let place = q.name as usize;
-        let n = q.name_length as usize;
-        let text = part(xs, place, n);
-        let mark = slot(text);
-        let set = bit(mark);
-        let old = marks[mark / 64];
-        let hit = old & set;
-        if hit == set {
-            if named(elements, elements.len(), text) {
-                return refused(24, place);
-            }
-            if identified(xs, sequences, k, text) {
-                return refused(24, place);
+        let text = identifier(xs, q);
+        if mark(&mut marks, text) {
+            if met(xs, elements, sequences, k, text) {
+                return refused(24, q.name as usize);
             }
         }
-        marks[mark / 64] = old | set;
         k += 1;
     }
     Verdict::Accepted
@@ -238,9 +252,5 @@ pub fn taken(
     ensures { λ r. ⌜ ((qs : List Section) → Shows qs body «body_length» sequences count
         → r ≡ among (texts (bodyNames (now (xs .entry)) qs) ++ texts (identifiers (now (xs .entry)) qs)) (now (text .entry))) ⌝ }
 {
-    let content = elements(xs, body, body_length);
-    if named(content, content.len(), text) {
-        return true;
-    }
-    identified(xs, sequences, count, text)
+    met(xs, elements(xs, body, body_length), sequences, count, text)
 }

@@ -25,24 +25,24 @@ loop-holds c = (c .before .before .good .1 .0 .1 .0 .1, omega arith, refl)
 returns : tie.Need-returns Inv-loop μ-loop
 returns c =
     let p2 = c .before .before in
-    let p6 = p2 .before .before .before .before in
-    let p7 = p6 .before in
-    let p10 = p7 .before .before .before in
-    sym (p7 .loop .inv .2
-    ∙ identified-next (p10 .args .xs .now) (p10 .args .t2) (p7 .loop .i) (p10 .args .k) (p6 .loop-test .taken) (omega arith) (p10 .args .text .now)
-    ∙ rw (← p2 .part .ensures, ← c .before .same .ensures, c .if1 .taken))
+    let p4 = p2 .before .before in
+    let p5 = p4 .before in
+    let p8 = p5 .before .before .before in
+    sym (p5 .loop .inv .2
+    ∙ identified-next (p8 .args .xs .now) (p8 .args .t2) (p5 .loop .i) (p8 .args .k) (p4 .loop-test .taken) (omega arith) (p8 .args .text .now)
+    ∙ rw (← p2 .identifier .ensures, ← c .before .same .ensures, c .if1 .taken))
 
 loop-again : tie.Need-loop-again Inv-loop μ-loop
 loop-again c =
     let p2 = c .before .before in
-    let p6 = p2 .before .before .before .before in
-    let p7 = p6 .before in
-    let p10 = p7 .before .before .before in (
-      p7 .loop .inv .0,
+    let p4 = p2 .before .before in
+    let p5 = p4 .before in
+    let p8 = p5 .before .before .before in (
+      p5 .loop .inv .0,
       omega arith,
-      p7 .loop .inv .2
-          ∙ identified-next (p10 .args .xs .now) (p10 .args .t2) (p7 .loop .i) (p10 .args .k) (p6 .loop-test .taken) (omega arith) (p10 .args .text .now)
-          ∙ rw (← p2 .part .ensures, ← c .before .same .ensures, c .if1 .left),
+      p5 .loop .inv .2
+          ∙ identified-next (p8 .args .xs .now) (p8 .args .t2) (p5 .loop .i) (p8 .args .k) (p4 .loop-test .taken) (omega arith) (p8 .args .text .now)
+          ∙ rw (← p2 .identifier .ensures, ← c .before .same .ensures, c .if1 .left),
     )
 
 loop-less : tie.Need-loop-less Inv-loop μ-loop
@@ -61,8 +61,6 @@ identified-spec =
     Inv-loop
     μ-loop
     loop-holds
-    (λ c. search needs)
-    (λ c. search needs)
     (λ c. search needs)
     (λ c. search needs)
     (λ c κs. search needs)
