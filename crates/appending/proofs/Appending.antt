@@ -32,7 +32,7 @@ use Rattle.message.proofs.Message.{same-size, stated-length, stated-end}
 use Rattle.message.proofs.Forwarded.{required, view-flags, view-length}
 use Rattle.message.proofs.Appended.{appended-word, appended-stated, appended-flags, appended-end, appended-sections, appended-sound}
 use Rattle.sections.proofs.Gather.{body-stays, sequences-more}
-use Rattle.storing.proofs.Size.{sizeOf, bytes-length}
+use Rattle.extending.proofs.Size.{sizeOf, bytes-length}
 use Rattle.appending.specs.Grown.{allowed, entry, grown}
 use Rattle.appending.proofs.Held.{accepted-held}
 use Rattle.appending.proofs.Section.{runAt, withSection, section-walked, names-checked}

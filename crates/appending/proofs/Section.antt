@@ -26,7 +26,7 @@ use Rattle.message.specs.Append.{sequenceBytes}
 use Rattle.naming.proofs.Texts.{among-append, among-last}
 use Rattle.sections.proofs.Gather.{body-stays, sequences-more}
 use Rattle.documents.proofs.Turns.{run-turns}
-use Rattle.storing.proofs.Size.{sizeOf, bytes-length}
+use Rattle.extending.proofs.Size.{sizeOf, bytes-length}
 use Rattle.appending.specs.Grown.{entry}
 use Rattle.appending.proofs.Held.{Held}
 

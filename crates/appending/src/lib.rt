@@ -158,7 +158,7 @@ pub fn append(e: Edition, s: &[u8], identifier: &[u8], documents: &[u8], out: &m
             documents: number,
             elements,
         } => {
-            storing::appended(out, s, end, v.flags, identifier, documents);
+            extending::appended(out, s, end, v.flags, identifier, documents);
             let view = grown(v, end, identifier.len(), documents.len(), number, elements);
             Reading {
                 verdict: Verdict::Accepted,

@@ -1,14 +1,10 @@
 // Forwarding a message.
-use flags::checksum_size;
 use opmsg::answer::refusal;
 use opmsg::read;
 use protocol::Edition;
 use protocol::Reading;
 use protocol::Verdict;
-use put::put;
-use put::put_word;
-use storing::seal;
-use wire::word;
+use storing::forwarded;
 ghost use mathlib.Core.Path.{_≡_};
 ghost use lib.ListN.{length};
 ghost use Rattle.protocol.specs.View.{answer};
@@ -25,20 +21,10 @@ pub fn forward(e: Edition, s: &[u8], out: &mut [u8]) -> Reading
     if let Verdict::Refused { number, place } = verdict {
         return refusal(number, place);
     }
-    let length = r.view.length as usize;
-    let flags = r.view.flags;
-    if out.len() < length {
+    let size = r.view.length as usize;
+    if out.len() < size {
         return refusal(25, 0);
     }
-    // The flag word stays, and so does the checksum, which was checked.
-    if word(&s[16..]) == flags {
-        put(out, 0, &s[..length]);
-        return r;
-    }
-    let end = length - checksum_size(flags) as usize;
-    put(out, 0, &s[..16]);
-    put_word(out, 16, flags);
-    put(out, 20, &s[20..end]);
-    seal(out, end, flags);
+    forwarded(out, s, size, r.view.flags);
     r
 }

@@ -1,26 +1,20 @@
 -- What a call answers, by the room for its view.
 -- Assumes nothing.
 use Prim.Native.Nat.{ℕ, _+_, _*_, _%_, _^_, _<_, _≤_}
-use mathlib.Core.Bool.{Bool, true, false}
 use mathlib.Core.Path.{_≡_, refl, ap, _∙_}
 use mathlib.Core.List.{List, _++_}
 use native.Mathlib.Omega.{arith}
-use lib.ListN.{drop}
+use lib.ListN.{length, drop}
 use lib.IntN.{ℤ}
-use lib.Dec.{ltb}
-use borrow.Author.Tests.{lt-ltb, le-ltb, ltb-true, ltb-false}
+use borrow.Author.Tests.{lt-ltb, le-ltb}
 use Rattle.wire.specs.Outcome.{Outcome, ok, refused, _>>=_}
 use Rattle.wire.proofs.Outcome.{ok-same, went, pass, stop, go-on, halt}
 use Rattle.protocol.specs.View.{answer}
-use Rattle.protocol.specs.Read.{read}
-use Rattle.protocol.specs.declared.Edition.{Edition}
 use Rattle.protocol.specs.declared.View.{View}
 use Rattle.protocol.specs.declared.Verdict.the-variants.{Accepted, Refused}
 use Rattle.protocol.specs.declared.Reading.{Reading}
 use Rattle.protocol.proofs.Answered.{answer-refused, answer-accepted}
 use Rattle.message.specs.Message.{Written, viewed, output}
-use Rattle.message.specs.Forward.{forward}
-use Rattle.relay.proofs.Forwards.{forward-short, forward-fits}
 use Rattle.numbers.specs.Numbers.{viewNumbers, viewSize}
 use Rattle.interface.specs.Interface.{withRoom, result, numbers}
 
@@ -39,14 +33,6 @@ module _ {A : Type 0} (room : ℕ) (o : Outcome A) where
   pub has-room : {a : A} → viewSize ≤ room → o ≡ ok a → withRoom room o ≡ ok a
   unfolding withRoom
   has-room l h = go-on _ h ∙ pass 25 0 _ (le-ltb _ _ l)
-
--- what forwarding answers where there is no room for the view: it accepts nothing
-pub never-room : (room out : ℕ) (e : Edition) (s : List ℕ) {v : View} → room < viewSize → read e s ≡ ok v → withRoom room (forward e s out) ≡ refused 25 0
-never-room room out e s {v} l h = go (ltb out (v .length)) refl
-  where
-    go : (t : Bool) → ltb out (v .length) ≡ t → withRoom room (forward e s out) ≡ refused 25 0
-    go true t = own-refusal room _ (forward-short e s out v h (ltb-true _ _ t))
-    go false t = no-room room _ l (forward-fits e s out v h (ltb-false _ _ t))
 
 -- a call that writes, by its answer: what it refuses, or what it wrote
 unviewed-refused : (o : Outcome Written) {number place : ℕ} → viewed o ≡ refused number place → o ≡ refused number place
@@ -71,9 +57,16 @@ Promised room o code old out view shown =
     (code ≡ result (withRoom room o)) × ((out ≡ output (withRoom room o) old) × (shown ≡ numbers (viewed (withRoom room o)) view))
 
 module _ (room : ℕ) (o : Outcome Written) (old : List ℕ) (view : List ℤ) where
-  refused-leaves : {number place code : ℕ} → withRoom room o ≡ refused number place → code ≡ number * 2 ^ 32 + place % 2 ^ 32 → Promised room o code old old view view
+  -- a refusal leaves all as it was
+  pub refused-leaves : {number place code : ℕ} → withRoom room o ≡ refused number place → code ≡ number * 2 ^ 32 + place % 2 ^ 32 → Promised room o code old old view view
   unfolding result output numbers viewed _>>=_
   refused-leaves h c = rw h (c, (refl, refl))
+
+  -- what is accepted is written
+  pub accepted-leaves : {w : Written} (out : List ℕ) (shown : List ℤ) → withRoom room o ≡ ok w → out ≡ w .bytes ++ drop (length (w .bytes)) old
+      → shown ≡ viewNumbers (w .view) ++ drop viewSize view → Promised room o 0 old out view shown
+  unfolding result output numbers viewed _>>=_
+  accepted-leaves out shown h a b = rw h (refl, (a, b))
 
   -- with no room for the view it refuses
   pub promised-short : {code : ℕ} → room < viewSize → code ≡ result (withRoom room o) → Promised room o code old old view view

@@ -4,6 +4,7 @@ use interface::refusal;
 use numbers::show;
 use protocol::Edition;
 use protocol::Verdict;
+use storing::forwarded;
 ghost use mathlib.Core.Path.{_≡_};
 ghost use Prim.Native.Nat.{ℕ, _<_};
 ghost use lib.ListN.{length};
@@ -47,30 +48,22 @@ pub extern "C" fn relay_forward(
     ensures writes { λ _. ⌜ now (out .exit) ≡ output (withRoom (length (now (view .entry))) (forward (editionOf bits sequences) (now (message .entry)) (length (now (out .entry))))) (now (out .entry)) ⌝ }
     ensures shows { λ _. ⌜ now (view .exit) ≡ numbers (viewed (withRoom (length (now (view .entry))) (forward (editionOf bits sequences) (now (message .entry)) (length (now (out .entry)))))) (now (view .entry)) ⌝ }
 {
-    let e = edition(bits, sequences);
-    if view.len() < 88 {
-        return forward_refused(e, message);
-    }
-    let r = relay::forward(e, message, out);
+    let r = opmsg::read(edition(bits, sequences), message);
     let verdict = r.verdict;
     if let Verdict::Refused { number, place } = verdict {
         return refusal(number, place);
     }
+    let size = r.view.length as usize;
+    if out.len() < size {
+        return refusal(25, 0);
+    }
+    if view.len() < 88 {
+        return refusal(25, 0);
+    }
+    forwarded(out, message, size, r.view.flags);
     let shown = r.view;
     show(shown, view);
     0
-}
-
-// What a call that forwards answers where there is no room for the view: reading's refusal, or 25.
-fn forward_refused(e: Edition, message: &[u8]) -> u64
-    ensures { λ r. ⌜ ((room out : ℕ) → room < 88 → r ≡ result (withRoom room (forward e (now (message .entry)) out))) ⌝ }
-{
-    let r = opmsg::read(e, message);
-    let verdict = r.verdict;
-    if let Verdict::Refused { number, place } = verdict {
-        return refusal(number, place);
-    }
-    refusal(25, 0)
 }
 
 #[no_mangle]

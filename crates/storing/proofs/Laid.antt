@@ -11,7 +11,7 @@ use Rattle.protocol.specs.Layout.{checksumSize}
 use Rattle.message.specs.Message.{checksum, message, wholeLength}
 use Rattle.message.specs.Write.{written}
 use Rattle.message.proofs.Message.{length-checksum}
-use Rattle.storing.proofs.Stores.{Stored, stores-none, stored-length, stores, stores-byte, sealed}
+use Rattle.sealing.proofs.Stores.{Stored, stores-none, stored-length, stores, stores-byte, sealed}
 
 -- after each store
 module _ (i j : ℤ) (flags : ℕ) (s old n₁ n₂ n₃ n₄ n₅ : List ℕ) (room : wholeLength flags (0 ∷ s) ≤ length old)

@@ -1,4 +1,2 @@
-pub mod Stores
 pub mod Laid
-pub mod Size
-pub mod Grown
+pub mod Forwards

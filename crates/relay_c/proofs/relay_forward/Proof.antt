@@ -1,37 +1,78 @@
--- `relay_c::relay_forward` meets its contract: what forwarding answers and writes, where there is room for the view.
+-- `relay_c::relay_forward` meets its contract: reading's answer, the room for the message and for the view, and both written.
 -- Assumes nothing.
+use mathlib.Core.Path.{_≡_, refl}
 use lib.ListN.{length}
 use borrow.Author.Needs.{needs}
-use Rattle.message.specs.Forward.{forward}
+use Rattle.wire.specs.Outcome.{ok}
+use Rattle.protocol.specs.Read.{read}
+use Rattle.protocol.proofs.Answered.{answer-refused, answer-accepted}
+use Rattle.message.specs.Forward.{forwarded, forward}
+use Rattle.message.proofs.Forwarding.{forward-refused, forward-short, forward-fits}
 use Rattle.numbers.specs.Numbers.{viewSize}
-use Rattle.relay_c.proofs.Results.{promised-short, promised-refusal, promised-all}
+use Rattle.relay_c.proofs.Results.{own-refusal, no-room, has-room, refused-leaves, accepted-leaves}
 use Rattle.relay_c.proofs.relay_forward.Statement.{statement}
 use Rattle.relay_c.proofs.relay_forward.Tie as tie
 
 returns : tie.Need-returns
-unfolding viewSize
 returns c =
-    let p2 = c .before .before in
-    let p5 = p2 .before .before .before in
-    rw (← p2 .edition .ensures) (promised-short _ (forward (p2 .edition .result) (p5 .args .message .now) (length (p5 .args .out .now))) _ _ (c .before .if1 .taken) (c .forward-refused .ensures _ _ (c .before .if1 .taken)))
+    let v = c .before .before in
+    let r = v .before .before in
+    let e = r .before in
+    let a = e .before .before .before in
+    let o = forward (e .edition .result) (a .args .message .now) (length (a .args .out .now)) in
+    rw (← e .edition .ensures)
+    (refused-leaves _ o _ _ (own-refusal _ o (forward-refused (e .edition .result) (a .args .message .now) _ (answer-refused _ _ (r .read .ensures) (v .verdict .given .1)))) (c .refusal .ensures))
+
+-- the message was read
+shown : (c : tie.After-enum-told) →
+    let r = c .before .before in
+    let e = r .before in
+    read (e .edition .result) (e .before .before .before .args .message .now) ≡ ok (r .read .result .view)
+shown c = let r = c .before .before in answer-accepted _ (r .read .result) (r .read .ensures) (c .enum-told .given .1)
 
 returns-2 : tie.Need-returns-2
 returns-2 c =
-    let p2 = c .before .before in
-    let p6 = p2 .before .before .before .before in
-    rw (← p6 .before .before .before .edition .ensures) (promised-refusal _ _ _ _ (p6 .forward .result) (p6 .forward .ensures .0) _ (p6 .forward .ensures .1) (p2 .verdict .given .1) (c .refusal .ensures))
-
-show-requires : tie.Need-show-requires
-unfolding viewSize
-show-requires c κs = c .before .before .before .before .before .before .before .before .if1 .left
+    let t = c .before .before .before in
+    let e = t .before .before .before in
+    let a = e .before .before .before in
+    let o = forward (e .edition .result) (a .args .message .now) (length (a .args .out .now)) in
+    rw (← e .edition .ensures)
+    (refused-leaves _ o _ _ (own-refusal _ o (forward-short (e .edition .result) (a .args .message .now) _ _ (shown t) (c .before .if1 .taken))) (c .refusal2 .ensures))
 
 returns-3 : tie.Need-returns-3
 unfolding viewSize
 returns-3 c =
-    let p4 = c .before .before .before .before in
-    let p8 = p4 .before .before .before .before in
-    let p10 = p8 .before .before in
-    rw (← p10 .before .edition .ensures) (promised-all _ _ _ _ (p8 .forward .result) (p8 .forward .ensures .0) _ (p8 .forward .ensures .1) _ (p10 .if1 .left) (p4 .enum-told .given .1) (c .before .show .ensures))
+    let f = c .before .before in
+    let t = f .before .before in
+    let e = t .before .before .before in
+    let a = e .before .before .before in
+    let o = forward (e .edition .result) (a .args .message .now) (length (a .args .out .now)) in
+    rw (← e .edition .ensures)
+    (refused-leaves _ o _ _ (no-room _ o (c .before .if2 .taken) (forward-fits (e .edition .result) (a .args .message .now) _ _ (shown t) (f .if1 .left))) (c .refusal3 .ensures))
+
+forwarded-requires : tie.Need-forwarded-requires
+forwarded-requires c κs =
+    let f = c .before .before in
+    let t = f .before .before in
+    let r = t .before .before in
+    (record { edition = r .before .edition .result; view = r .read .result .view; reads = shown t; size-is = refl; flags-is = refl }, f .if1 .left)
+
+show-requires : tie.Need-show-requires
+unfolding viewSize
+show-requires c κs = c .before .before .before .before .before .before .if2 .left
+
+returns-4 : tie.Need-returns-4
+unfolding viewSize forwarded
+returns-4 c =
+    let w = c .before .before .before .before .before .before in
+    let l = w .before .before in
+    let f = l .before in
+    let t = f .before .before in
+    let e = t .before .before .before in
+    let a = e .before .before .before in
+    let o = forward (e .edition .result) (a .args .message .now) (length (a .args .out .now)) in
+    rw (← e .edition .ensures)
+    (accepted-leaves _ o _ _ _ _ (has-room _ o (l .if2 .left) (forward-fits (e .edition .result) (a .args .message .now) _ _ (shown t) (f .if1 .left))) (w .forwarded .ensures) (c .before .show .ensures))
 
 pub relay-forward-spec : {M : Type 1} → statement M
 relay-forward-spec =
@@ -39,14 +80,17 @@ relay-forward-spec =
     (tie.spec
     (λ c κs. search needs)
     (λ c κs. search needs)
+    (λ c. search needs)
+    (λ c κs. search needs)
     returns
-    (λ c κs. search needs)
+    (λ c. search needs)
     (λ c. search needs)
     (λ c κs. search needs)
-    (λ c. search needs)
     returns-2
-    (λ c. search needs)
+    (λ c κs. search needs)
+    returns-3
+    forwarded-requires
     show-requires
     (λ c. search needs)
     (λ c. search needs)
-    returns-3)
+    returns-4)

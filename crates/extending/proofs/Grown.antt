@@ -11,9 +11,9 @@ use Rattle.wire.proofs.Parts.{put-fits}
 use Rattle.protocol.specs.Layout.{checksumSize}
 use Rattle.message.specs.Message.{checksum, message, wholeLength}
 use Rattle.message.specs.Append.{sequenceBytes, appended}
-use Rattle.storing.specs.Over.{over}
-use Rattle.storing.proofs.Stores.{Stored, stores-none, stores, stores-byte, sealed}
-use Rattle.storing.proofs.Size.{sizeOf, bytes-length}
+use Rattle.sealing.specs.Over.{over}
+use Rattle.sealing.proofs.Stores.{Stored, stores-none, stores, stores-byte, sealed}
+use Rattle.extending.proofs.Size.{sizeOf, bytes-length}
 
 module _ (at : ℕ) (name documents old : List ℕ) (fits : at + (1 + sizeOf name documents) ≤ length old) where
   front-length : length (take at old) ≡ at

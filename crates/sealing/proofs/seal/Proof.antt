@@ -1,4 +1,4 @@
--- `storing::seal` meets its contract: where the flag word has bit 0, the checksum is stored, and else nothing.
+-- `sealing::seal` meets its contract: where the flag word has bit 0, the checksum is stored, and else nothing.
 -- Assumes nothing.
 use mathlib.Core.Path.{sym, _∙_}
 use native.Mathlib.Omega.{arith}
@@ -6,9 +6,9 @@ use lib.Seq.{length-take-le}
 use borrow.Author.Needs.{needs}
 use Rattle.wire.proofs.Parts.{put-too-long}
 use Rattle.message.proofs.Message.{checksum-with, checksum-without}
-use Rattle.storing.proofs.Stores.{put-none}
-use Rattle.storing.proofs.seal.Statement.{statement}
-use Rattle.storing.proofs.seal.Tie as tie
+use Rattle.sealing.proofs.Stores.{put-none}
+use Rattle.sealing.proofs.seal.Statement.{statement}
+use Rattle.sealing.proofs.seal.Tie as tie
 
 returns : tie.Need-returns
 returns c = sym (put-too-long _ _ _ (omega arith))

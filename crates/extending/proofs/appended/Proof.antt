@@ -1,9 +1,9 @@
--- `storing::appended` meets its contract: header, flag word, sections and checksum are stored one behind the other.
+-- `extending::appended` meets its contract: header, flag word, sections and checksum are stored one behind the other.
 -- Assumes nothing.
 use borrow.Author.Needs.{needs}
-use Rattle.storing.proofs.Grown.{message-stored}
-use Rattle.storing.proofs.appended.Statement.{statement}
-use Rattle.storing.proofs.appended.Tie as tie
+use Rattle.extending.proofs.Grown.{message-stored}
+use Rattle.extending.proofs.appended.Statement.{statement}
+use Rattle.extending.proofs.appended.Tie as tie
 
 returns : tie.Need-returns
 returns c =

@@ -1,12 +1,12 @@
--- `storing::section` meets its contract: its bytes are stored one behind the other.
+-- `extending::section` meets its contract: its bytes are stored one behind the other.
 -- Assumes nothing.
 use Prim.Native.Nat.{_+_}
 use native.Mathlib.Omega.{arith}
 use lib.ListN.{length, length-set}
 use borrow.Author.Needs.{needs}
-use Rattle.storing.proofs.Grown.{section-stored}
-use Rattle.storing.proofs.section.Statement.{statement}
-use Rattle.storing.proofs.section.Tie as tie
+use Rattle.extending.proofs.Grown.{section-stored}
+use Rattle.extending.proofs.section.Statement.{statement}
+use Rattle.extending.proofs.section.Tie as tie
 
 slice-write-out-2 : tie.Need-slice-write-out-2
 slice-write-out-2 c =
