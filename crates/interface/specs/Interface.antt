@@ -9,11 +9,17 @@ use lib.Dec.{ltb, eqb}
 use Rattle.wire.specs.Outcome.{Outcome, ok, refused, refuse, _>>=_}
 use Rattle.protocol.specs.declared.Edition.{Edition}
 use Rattle.protocol.specs.declared.View.{View}
+use Rattle.protocol.specs.declared.Verdict.the-variants.{Accepted, Refused}
+use Rattle.protocol.specs.declared.Reading.{Reading}
 use Rattle.numbers.specs.Numbers.{viewNumbers, viewSize}
 
 -- an edition: its known bits, and whether sections of kind 1 are known, 0 or not 0
 unfoldable pub editionOf : ℕ → ℕ → Edition
 editionOf bits sequences = record { bits = bits; sequences = not (eqb sequences 0) }
+
+-- what an answer tells
+unfoldable pub outcome : Reading → Outcome View
+outcome r = elim (r .verdict) [ Accepted ↦ ok (r .view) | Refused number place ↦ refused number place ]
 
 -- room for the numbers of a view is asked after the call's own refusals
 unfoldable pub withRoom : {A : Type 0} → ℕ → Outcome A → Outcome A

@@ -1,16 +1,14 @@
 // The calls of the library for C and Rust: numbers and slices only. host/relay.h is their manual.
+use interface::NUMBERS;
+use interface::answered;
 use interface::edition;
 use interface::refusal;
+use interface::without_view;
 use numbers::show;
-use protocol::Edition;
 use protocol::Verdict;
 use storing::forwarded;
 ghost use mathlib.Core.Path.{_≡_};
-ghost use Prim.Native.Nat.{ℕ, _<_};
 ghost use lib.ListN.{length};
-ghost use lib.IntN.{ℤ};
-ghost use mir.Syntax.{w32};
-ghost use mir.Val.{SFits};
 ghost use Rattle.protocol.specs.Read.{read};
 ghost use Rattle.message.specs.Message.{viewed, output};
 ghost use Rattle.message.specs.Forward.{forward};
@@ -23,17 +21,7 @@ pub extern "C" fn relay_read(bits: u32, sequences: u8, message: &[u8], view: &mu
     ensures answers { λ r. ⌜ r ≡ result (withRoom (length (now (view .entry))) (read (editionOf bits sequences) (now (message .entry)))) ⌝ }
     ensures shows { λ _. ⌜ now (view .exit) ≡ numbers (withRoom (length (now (view .entry))) (read (editionOf bits sequences) (now (message .entry)))) (now (view .entry)) ⌝ }
 {
-    let r = opmsg::read(edition(bits, sequences), message);
-    let verdict = r.verdict;
-    if let Verdict::Refused { number, place } = verdict {
-        return refusal(number, place);
-    }
-    if view.len() < 88 {
-        return refusal(25, 0);
-    }
-    let shown = r.view;
-    show(shown, view);
-    0
+    answered(opmsg::read(edition(bits, sequences), message), view)
 }
 
 #[no_mangle]
@@ -57,7 +45,7 @@ pub extern "C" fn relay_forward(
     if out.len() < size {
         return refusal(25, 0);
     }
-    if view.len() < 88 {
+    if view.len() < NUMBERS {
         return refusal(25, 0);
     }
     forwarded(out, message, size, r.view.flags);
@@ -82,28 +70,13 @@ pub extern "C" fn relay_write(
     ensures shows { λ _. ⌜ now (view .exit) ≡ numbers (viewed (withRoom (length (now (view .entry))) (write (editionOf bits sequences) «request_id» «response_to» flags (now (body .entry)) (length (now (out .entry)))))) (now (view .entry)) ⌝ }
 {
     let e = edition(bits, sequences);
-    if view.len() < 88 {
-        return write_refused(e, flags, body, out.len());
+    if view.len() < NUMBERS {
+        return without_view(writing::check(e, flags, body, out.len()));
     }
-    let r = writing::write(e, request_id, response_to, flags, body, out);
-    let verdict = r.verdict;
-    if let Verdict::Refused { number, place } = verdict {
-        return refusal(number, place);
-    }
-    let shown = r.view;
-    show(shown, view);
-    0
-}
-
-// What a call that writes answers where there is no room for the view: its own refusal, or 25.
-fn write_refused(e: Edition, flags: u32, body: &[u8], room: usize) -> u64
-    ensures { λ r. ⌜ ((numbers : ℕ) (i j : ℤ) → numbers < 88 → SFits w32 i → SFits w32 j → r ≡ result (withRoom numbers (write e i j flags (now (body .entry)) room))) ⌝ }
-{
-    let verdict = writing::check(e, flags, body, room);
-    if let Verdict::Refused { number, place } = verdict {
-        return refusal(number, place);
-    }
-    refusal(25, 0)
+    answered(
+        writing::write(e, request_id, response_to, flags, body, out),
+        view,
+    )
 }
 
 #[no_mangle]
@@ -121,32 +94,11 @@ pub extern "C" fn relay_append(
     ensures shows { λ _. ⌜ now (view .exit) ≡ numbers (viewed (withRoom (length (now (view .entry))) (append (editionOf bits sequences) (now (message .entry)) (now (identifier .entry)) (now (documents .entry)) (length (now (out .entry)))))) (now (view .entry)) ⌝ }
 {
     let e = edition(bits, sequences);
-    if view.len() < 88 {
-        return append_refused(e, message, identifier, documents, out.len());
+    if view.len() < NUMBERS {
+        return without_view(appending::check(e, message, identifier, documents, out.len()));
     }
-    let r = appending::append(e, message, identifier, documents, out);
-    let verdict = r.verdict;
-    if let Verdict::Refused { number, place } = verdict {
-        return refusal(number, place);
-    }
-    let shown = r.view;
-    show(shown, view);
-    0
-}
-
-// What a call that appends answers where there is no room for the view: its own refusal, or 25.
-fn append_refused(
-    e: Edition,
-    message: &[u8],
-    identifier: &[u8],
-    documents: &[u8],
-    room: usize,
-) -> u64
-    ensures { λ r. ⌜ ((numbers : ℕ) → numbers < 88 → r ≡ result (withRoom numbers (append e (now (message .entry)) (now (identifier .entry)) (now (documents .entry)) room))) ⌝ }
-{
-    let verdict = appending::check(e, message, identifier, documents, room);
-    if let Verdict::Refused { number, place } = verdict {
-        return refusal(number, place);
-    }
-    refusal(25, 0)
+    answered(
+        appending::append(e, message, identifier, documents, out),
+        view,
+    )
 }

@@ -9,7 +9,8 @@ use Rattle.protocol.proofs.Answered.{answer-refused, answer-accepted}
 use Rattle.message.specs.Forward.{forwarded, forward}
 use Rattle.message.proofs.Forwarding.{forward-refused, forward-short, forward-fits}
 use Rattle.numbers.specs.Numbers.{viewSize}
-use Rattle.relay_c.proofs.Results.{own-refusal, no-room, has-room, refused-leaves, accepted-leaves}
+use Rattle.interface.proofs.Room.{own-refusal, no-room, has-room}
+use Rattle.relay_c.proofs.Results.{refused-leaves, accepted-leaves}
 use Rattle.relay_c.proofs.relay_forward.Statement.{statement}
 use Rattle.relay_c.proofs.relay_forward.Tie as tie
 
