@@ -18,7 +18,7 @@ use Rattle.protocol.specs.declared.Reading.{Reading}
 use Rattle.message.specs.Message.{Written, viewed, output}
 use Rattle.message.specs.Write.{write}
 use Rattle.writing.specs.Answers as writing
-use Rattle.appending.specs.Examined.{Decided}
+use Rattle.appending.specs.Decided.{Decided}
 use Rattle.numbers.specs.Numbers.{viewNumbers, viewSize}
 use Rattle.interface.specs.Interface.{outcome, withRoom, result, numbers}
 use Rattle.interface.proofs.Room.{outcome-answer, own-refusal, no-room, has-room}

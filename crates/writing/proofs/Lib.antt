@@ -1,2 +1,1 @@
-pub mod Examined
 pub mod Written

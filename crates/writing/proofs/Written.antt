@@ -31,7 +31,8 @@ use Rattle.protocol.proofs.Accepted.{Sound, read-content}
 use Rattle.message.specs.Message.{wholeLength}
 use Rattle.message.specs.Write.{written, write}
 use Rattle.message.proofs.Message.{Headed, message-word, message-flags, message-end, message-sections, message-sound}
-use Rattle.writing.specs.Answers.{Fit, examined, shown}
+use Rattle.write_checks.specs.Answers.{Fit, examined}
+use Rattle.writing.specs.Answers.{shown}
 
 -- ---- sections that are a body alone
 

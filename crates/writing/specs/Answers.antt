@@ -1,53 +1,25 @@
--- What the private functions answer in document 01's terms.
+-- What a write decides, and what its view shows.
 -- Assumes nothing: these are definitions.
-use Prim.Native.Nat.{ℕ, _-_, _≤_}
-use mathlib.Core.Bool.{false, not}
-use mathlib.Core.List.{List, [], _∷_}
+use Prim.Native.Nat.{ℕ}
+use mathlib.Core.List.{List, []}
 use mathlib.Core.Path.{_≡_}
-use lib.ListN.{take, drop}
 use lib.IntN.{ℤ}
 use mir.Syntax.{w32}
 use mir.Val.{SFits}
-use Rattle.wire.specs.Outcome.{Outcome, ok, refused, _>>=_}
-use Rattle.wire.specs.Bytes.{word}
-use Rattle.wire.specs.Walk.{Step}
-use Rattle.bson.specs.Document.{documentAt, maxLevels}
-use Rattle.protocol.specs.Flags.{allKnown}
-use Rattle.protocol.specs.Layout.{maxLength}
-use Rattle.protocol.specs.Names.{distinct, elementNames}
+use Rattle.wire.specs.Outcome.{ok, refused}
 use Rattle.protocol.specs.View.{padded}
-use Rattle.message.specs.Message.{wholeLength, Written}
+use Rattle.message.specs.Message.{Written}
 use Rattle.message.specs.Write.{write}
 use Rattle.protocol.specs.declared.Edition.{Edition}
 use Rattle.protocol.specs.declared.View.{View}
 use Rattle.protocol.specs.declared.Verdict.{Verdict}
 use Rattle.protocol.specs.declared.Verdict.the-variants.{Accepted, Refused}
 
--- the checks before reading are passed
-pub record Fit (e : Edition) (flags : ℕ) (body : List ℕ) (room : ℕ) : Type 0 where
-  pub known : not (allKnown 32 (e .bits) flags) ≡ false
-  pub limit : wholeLength flags (0 ∷ body) ≤ maxLength
-  pub holds : wholeLength flags (0 ∷ body) ≤ room
-  pub least : 4 ≤ lib.ListN.length body
-  pub stated : word body ≡ lib.ListN.length body
-
--- they are, or one of them refuses, whatever the ids
-abbrev pub Checked : Edition → (flags : ℕ) → (body : List ℕ) → (room : ℕ) → Verdict → Type 0
-Checked e flags body room Accepted = Fit e flags body room
-Checked e flags body room (Refused number place) = (requestId responseTo : ℤ) → write e requestId responseTo flags body room ≡ refused number place
-
 -- writing refuses, whatever the ids, or it accepts with any ids of 32 bits
 abbrev pub Decided : Edition → (flags : ℕ) → (body : List ℕ) → (room : ℕ) → Verdict → Type 0
 Decided e flags body room Accepted =
     (requestId responseTo : ℤ) → SFits w32 requestId → SFits w32 responseTo → (w : Written) × (write e requestId responseTo flags body room ≡ ok w)
 Decided e flags body room (Refused number place) = (requestId responseTo : ℤ) → write e requestId responseTo flags body room ≡ refused number place
-
--- the body at its place in the message, and check 23 of its names
-unfoldable pub examined : List ℕ → Outcome (Step ℕ)
-examined body = do
-  d ← documentAt maxLevels 21 body 0
-  _ ← distinct 23 [] (elementNames (d .size) 25 (take (d .size - 5) (drop 4 body)))
-  ok d
 
 -- the view of a message of so many bytes whose one section is a body
 unfoldable pub shown : (requestId responseTo : ℤ) → (flags length size elements : ℕ) → View

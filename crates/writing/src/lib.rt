@@ -1,66 +1,22 @@
-// Writing a message from its ids, flag word and body. The body is read where it lies, and nothing is stored before the answer is known.
+// Writing a message from its ids, flag word and body. Nothing is stored before the answer is known.
 use bson::Walk;
-use flags::all_known;
 use flags::checksum_size;
-use header::LENGTH;
-use naming::names::body_names;
 use opmsg::answer::refusal;
 use protocol::Edition;
 use protocol::Reading;
 use protocol::Verdict;
 use protocol::View;
-use protocol::refused;
 use sections::no_sequence;
-use wire::word;
+use write_checks::checks;
+use write_checks::examine;
 ghost use mathlib.Core.Path.{_≡_};
 ghost use Prim.Native.Nat.{_+_, _^_, _<_};
 ghost use lib.ListN.{length};
-ghost use Rattle.bson.specs.Document.{told};
 ghost use Rattle.protocol.specs.Layout.{checksumSize};
 ghost use Rattle.protocol.specs.View.{answer};
 ghost use Rattle.message.specs.Message.{viewed, output};
-ghost use Rattle.message.specs.Write.{written, write};
-ghost use Rattle.writing.specs.Answers.{Checked, Decided, examined, shown};
-
-// The checks before the body is read: 8, 2, 25 and 15.
-fn checks(e: Edition, flags: u32, body: &[u8], room: usize) -> Verdict
-    ensures { λ r. ⌜ Checked e flags (now (body .entry)) room r ⌝ }
-{
-    if !all_known(e.bits, flags) {
-        return refused(8, 16);
-    }
-    let around = 21 + checksum_size(flags) as usize;
-    if LENGTH as usize - around < body.len() {
-        return refused(2, 0);
-    }
-    if room < around + body.len() {
-        return refused(25, 0);
-    }
-    if body.len() < 4 {
-        return refused(15, 21);
-    }
-    if word(body) as usize != body.len() {
-        return refused(15, 21);
-    }
-    Verdict::Accepted
-}
-
-// Reads the body at its place in the message, with check 23 of its names.
-fn examine(body: &[u8]) -> Walk
-    ensures { λ r. ⌜ told r ≡ examined (now (body .entry)) ⌝ }
-{
-    let w = bson::document(body, 21, 0);
-    let Walk::Past { size, .. } = w else {
-        return w;
-    };
-    let last = size - 1;
-    let mut marks: [u64; 32] = [0; 32];
-    let verdict = body_names(&body[4..last], 25, &mut marks);
-    if let Verdict::Refused { number, place } = verdict {
-        return Walk::Refused { number, place };
-    }
-    w
-}
+ghost use Rattle.message.specs.Write.{write};
+ghost use Rattle.writing.specs.Answers.{Decided, shown};
 
 // How long the message is.
 fn whole(flags: u32, size: usize) -> u32

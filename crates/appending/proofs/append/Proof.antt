@@ -10,8 +10,8 @@ use Rattle.protocol.specs.View.{answer}
 use Rattle.protocol.specs.Read.{read}
 use Rattle.protocol.proofs.Answered.{answer-refused, answer-accepted}
 use Rattle.message.specs.Message.{viewed, output}
-use Rattle.appending.proofs.Appending.{append-unread}
-use Rattle.appending.proofs.Answers.{ready-allowed, ready-low, ready-inside, ready-length, ready-small}
+use Rattle.append_checks.proofs.Appending.{append-unread}
+use Rattle.append_checks.proofs.Answers.{ready-allowed, ready-low, ready-inside, ready-length, ready-small}
 use Rattle.appending.proofs.append.Statement.{statement}
 use Rattle.appending.proofs.append.Tie as tie
 

@@ -3,7 +3,7 @@
 use borrow.Author.Needs.{needs}
 use Rattle.protocol.specs.Read.{read}
 use Rattle.protocol.proofs.Answered.{answer-refused, answer-accepted}
-use Rattle.appending.proofs.Appending.{append-unread}
+use Rattle.append_checks.proofs.Appending.{append-unread}
 use Rattle.appending.proofs.check.Statement.{statement}
 use Rattle.appending.proofs.check.Tie as tie
 

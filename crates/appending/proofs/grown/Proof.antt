@@ -1,7 +1,7 @@
 -- `appending::grown` meets its contract: the sequence is stored behind the others.
 -- Assumes nothing.
 use borrow.Author.Needs.{needs}
-use Rattle.appending.specs.Grown.{entry, grown}
+use Rattle.append_checks.specs.Grown.{entry, grown}
 use Rattle.appending.proofs.grown.Statement.{statement}
 use Rattle.appending.proofs.grown.Tie as tie
 

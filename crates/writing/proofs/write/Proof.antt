@@ -11,7 +11,7 @@ use Rattle.bson.specs.Document.{told}
 use Rattle.protocol.specs.View.{answer}
 use Rattle.protocol.proofs.Limits.{maxLength-small}
 use Rattle.message.specs.Message.{wholeLength, viewed, output}
-use Rattle.writing.specs.Answers.{Fit}
+use Rattle.write_checks.specs.Answers.{Fit}
 use Rattle.writing.proofs.Written.{write-refused, write-accepted}
 use Rattle.writing.proofs.write.Statement.{statement}
 use Rattle.writing.proofs.write.Tie as tie

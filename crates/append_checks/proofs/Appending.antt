@@ -33,9 +33,9 @@ use Rattle.message.proofs.Forwarded.{required, view-flags, view-length}
 use Rattle.message.proofs.Appended.{appended-word, appended-stated, appended-flags, appended-end, appended-sections, appended-sound}
 use Rattle.sections.proofs.Gather.{body-stays, sequences-more}
 use Rattle.extending.proofs.Size.{sizeOf, bytes-length}
-use Rattle.appending.specs.Grown.{allowed, entry, grown}
-use Rattle.appending.proofs.Held.{accepted-held}
-use Rattle.appending.proofs.Section.{runAt, withSection, section-walked, names-checked}
+use Rattle.append_checks.specs.Grown.{allowed, entry, grown}
+use Rattle.append_checks.proofs.Held.{accepted-held}
+use Rattle.append_checks.proofs.Section.{runAt, withSection, section-walked, names-checked}
 
 -- the checks of `allowed` passed
 pub record Allowed (e : Edition) (count : ℕ) (name : List ℕ) (whole room : ℕ) : Type 0 where

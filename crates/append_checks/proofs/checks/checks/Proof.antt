@@ -1,4 +1,4 @@
--- `appending::checks::checks` meets its contract: each way out has its tests.
+-- `append_checks::checks::checks` meets its contract: each way out has its tests.
 -- Assumes nothing.
 use Prim.Native.Nat.{_+_}
 use mathlib.Core.Path.{sym, _∙_}
@@ -10,9 +10,9 @@ use Rattle.wire.specs.Outcome.{refuse, _>>=_}
 use Rattle.protocol.specs.Flags.{knows}
 use Rattle.protocol.specs.Layout.{maxLength}
 use Rattle.protocol.specs.Sections.{maxSequences}
-use Rattle.appending.specs.Grown.{allowed}
-use Rattle.appending.proofs.checks.checks.Statement.{statement}
-use Rattle.appending.proofs.checks.checks.Tie as tie
+use Rattle.append_checks.specs.Grown.{allowed}
+use Rattle.append_checks.proofs.checks.checks.Statement.{statement}
+use Rattle.append_checks.proofs.checks.checks.Tie as tie
 
 returns : tie.Need-returns
 unfolding allowed _>>=_ refuse knows

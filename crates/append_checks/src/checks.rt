@@ -11,7 +11,7 @@ ghost use lib.Dec.{ltb};
 ghost use lib.ListN.{length};
 ghost use Rattle.protocol.specs.Layout.{maxLength};
 ghost use Rattle.protocol.specs.Answers.{judged};
-ghost use Rattle.appending.specs.Grown.{allowed};
+ghost use Rattle.append_checks.specs.Grown.{allowed};
 
 // A message of `old` bytes with a new section passes the limit; the identifier has n bytes and the documents d.
 fn too_long(old: u32, n: usize, d: usize) -> bool

@@ -20,9 +20,9 @@ use Rattle.protocol.proofs.Accepted.{reads}
 use Rattle.message.specs.Append.{sequenceBytes, appended, append}
 use Rattle.message.proofs.Message.{stated-end, stated-length}
 use Rattle.message.proofs.Forwarded.{view-length}
-use Rattle.appending.specs.Grown.{allowed, grown, Ready}
-use Rattle.appending.proofs.Held.{Held, accepted-held}
-use Rattle.appending.proofs.Appending.{Allowed, allows, end-is, shows, append-barred, append-documents, append-taken, append-grown}
+use Rattle.append_checks.specs.Grown.{allowed, grown, Ready}
+use Rattle.append_checks.proofs.Held.{Held, accepted-held}
+use Rattle.append_checks.proofs.Appending.{Allowed, allows, end-is, shows, append-barred, append-documents, append-taken, append-grown}
 
 -- the checksum is in the message
 pub checksum-within : (e : Edition) (s : List ℕ) (v : View) → read e s ≡ ok v → checksumSize (v .flags) ≤ v .length

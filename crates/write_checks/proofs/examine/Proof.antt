@@ -1,4 +1,4 @@
--- `writing::examine` meets its contract: the document, and then its names.
+-- `write_checks::examine` meets its contract: the document, and then its names.
 -- Assumes nothing.
 use mathlib.Core.Path.{refl, sym}
 use native.Mathlib.Omega.{arith}
@@ -7,9 +7,9 @@ use borrow.Author.Needs.{needs}
 use Rattle.wire.specs.Outcome.{_>>=_}
 use Rattle.bson.proofs.Frame.{Framed}
 use Rattle.documents.proofs.Turns.{past-framed}
-use Rattle.writing.proofs.Examined.{body-refused, body-filled, body-named}
-use Rattle.writing.proofs.examine.Statement.{statement}
-use Rattle.writing.proofs.examine.Tie as tie
+use Rattle.write_checks.proofs.Examined.{body-refused, body-filled, body-named}
+use Rattle.write_checks.proofs.examine.Statement.{statement}
+use Rattle.write_checks.proofs.examine.Tie as tie
 
 returns : tie.Need-returns
 returns c =

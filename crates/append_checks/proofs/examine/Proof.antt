@@ -1,4 +1,4 @@
--- `appending::examine` meets its contract: the checks behind reading, the documents, and then the names.
+-- `append_checks::examine` meets its contract: the checks behind reading, the documents, and then the names.
 -- Assumes nothing.
 use mathlib.Core.Path.{sym, ap, _∙_}
 use native.Mathlib.Omega.{arith}
@@ -7,11 +7,11 @@ use Rattle.protocol.specs.Sections.{maxSequences}
 use Rattle.protocol.specs.Answers.{judged}
 use Rattle.protocol.proofs.Limits.{maxLength-small}
 use Rattle.documents.specs.Answers.{ran}
-use Rattle.appending.specs.Grown.{Ready}
-use Rattle.appending.proofs.Appending.{allows}
-use Rattle.appending.proofs.Answers.{checksum-within, end-of, checks-refuse, documents-refuse, ready-allowed, ready-low, ready-inside, ready-filled, ready-body, ready-taken, ready-grown}
-use Rattle.appending.proofs.examine.Statement.{statement}
-use Rattle.appending.proofs.examine.Tie as tie
+use Rattle.append_checks.specs.Grown.{Ready}
+use Rattle.append_checks.proofs.Appending.{allows}
+use Rattle.append_checks.proofs.Answers.{checksum-within, end-of, checks-refuse, documents-refuse, ready-allowed, ready-low, ready-inside, ready-filled, ready-body, ready-taken, ready-grown}
+use Rattle.append_checks.proofs.examine.Statement.{statement}
+use Rattle.append_checks.proofs.examine.Tie as tie
 
 sub-end : tie.Need-sub-end
 sub-end c = omega (arith, c .before .checksum-size .ensures, checksum-within _ _ _ (c .before .before .before .before .before .pre))

@@ -1,4 +1,4 @@
--- `appending::checks::too_long` meets its contract: where one of the two lengths passes the limit by itself, the sum does.
+-- `append_checks::checks::too_long` meets its contract: where one of the two lengths passes the limit by itself, the sum does.
 -- Assumes nothing.
 use Prim.Native.Nat.{_+_}
 use mathlib.Core.Path.{sym}
@@ -6,8 +6,8 @@ use native.Mathlib.Omega.{arith}
 use borrow.Author.Needs.{needs}
 use borrow.Author.Tests.{lt-ltb}
 use Rattle.protocol.specs.Layout.{maxLength}
-use Rattle.appending.proofs.checks.too_long.Statement.{statement}
-use Rattle.appending.proofs.checks.too_long.Tie as tie
+use Rattle.append_checks.proofs.checks.too_long.Statement.{statement}
+use Rattle.append_checks.proofs.checks.too_long.Tie as tie
 
 returns : tie.Need-returns
 unfolding maxLength

@@ -15,7 +15,7 @@ use Rattle.protocol.specs.Names.{distinct, elementNames}
 use Rattle.protocol.specs.declared.Verdict.{Verdict}
 use Rattle.naming.proofs.Elements.{names-turns}
 use Rattle.documents.proofs.Fill.{document-filled}
-use Rattle.writing.specs.Answers.{examined}
+use Rattle.write_checks.specs.Answers.{examined}
 
 module _ (s : List ℕ) (w : Walk) (is : told w ≡ documentAt maxLevels 21 s 0) where
   pub body-refused : {number place : ℕ} → w ≡ Walk.Refused number place → examined s ≡ refused number place

@@ -4,16 +4,13 @@ use Prim.Native.Nat.{ℕ, _-_}
 use mathlib.Core.List.{List, _++_}
 use mathlib.Core.Path.{_≡_}
 use lib.ListN.{length, take, drop}
-use Rattle.wire.specs.Outcome.{Outcome, ok, refused}
+use Rattle.wire.specs.Outcome.{ok, refused}
 use Rattle.protocol.specs.declared.Edition.{Edition}
 use Rattle.protocol.specs.declared.View.{View}
-use Rattle.protocol.specs.declared.Verdict.{Verdict}
-use Rattle.protocol.specs.declared.Verdict.the-variants.{Accepted, Refused}
-use Rattle.message.specs.Message.{Written}
 use Rattle.message.specs.Append.{sequenceBytes, appended, append}
-use Rattle.appending.specs.Grown.{grown, Ready}
-use Rattle.appending.specs.declared.Found.{Found}
-use Rattle.appending.specs.declared.Found.the-variants as found
+use Rattle.append_checks.specs.Grown.{grown, Ready}
+use Rattle.append_checks.specs.declared.Found.{Found}
+use Rattle.append_checks.specs.declared.Found.the-variants as found
 
 -- the message that grows by an identifier and documents, or the refusal
 abbrev pub Examined : Edition → (s : List ℕ) → View → (identifier documents : List ℕ) → (room : ℕ) → Found → Type 0
@@ -21,8 +18,3 @@ Examined e s v identifier documents room (found.New end number elements) = Ready
     × (append e s identifier documents room
     ≡ ok (record { view = grown v end (length identifier) (length documents) number elements; bytes = appended s (v .flags) (take (end - 20) (drop 20 s) ++ sequenceBytes identifier documents) }))
 Examined e s v identifier documents room (found.Refused number place) = append e s identifier documents room ≡ refused number place
-
--- a call accepts, or it refuses
-abbrev pub Decided : Outcome Written → Verdict → Type 0
-Decided o Accepted = (w : Written) × (o ≡ ok w)
-Decided o (Refused number place) = o ≡ refused number place

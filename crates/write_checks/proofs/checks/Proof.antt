@@ -1,4 +1,4 @@
--- `writing::checks` meets its contract: each way out has its tests.
+-- `write_checks::checks` meets its contract: each way out has its tests.
 -- Assumes nothing.
 use mathlib.Core.Path.{ap, _∙_}
 use mathlib.Core.Bool.{not}
@@ -11,8 +11,8 @@ use Rattle.protocol.specs.Layout.{maxLength}
 use Rattle.protocol.proofs.Limits.{checksum-small}
 use Rattle.message.specs.Message.{wholeLength}
 use Rattle.message.specs.Write.{write}
-use Rattle.writing.proofs.checks.Statement.{statement}
-use Rattle.writing.proofs.checks.Tie as tie
+use Rattle.write_checks.proofs.checks.Statement.{statement}
+use Rattle.write_checks.proofs.checks.Tie as tie
 
 returns : tie.Need-returns
 unfolding write

@@ -27,8 +27,8 @@ use Rattle.naming.proofs.Texts.{among-append, among-last}
 use Rattle.sections.proofs.Gather.{body-stays, sequences-more}
 use Rattle.documents.proofs.Turns.{run-turns}
 use Rattle.extending.proofs.Size.{sizeOf, bytes-length}
-use Rattle.appending.specs.Grown.{entry}
-use Rattle.appending.proofs.Held.{Held}
+use Rattle.append_checks.specs.Grown.{entry}
+use Rattle.append_checks.proofs.Held.{Held}
 
 -- a text without a zero byte ends at the zero byte behind it
 until-append : (xs r : List ℕ) → untilZero xs ≡ length xs → untilZero (xs ++ (0 ∷ r)) ≡ length xs
