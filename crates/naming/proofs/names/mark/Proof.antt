@@ -1,6 +1,5 @@
 -- `naming::names::mark` meets its contract.
 -- Assumes nothing.
-use mathlib.Core.Path.{refl}
 use borrow.Author.Needs.{needs}
 use Rattle.naming.specs.Answers.{marked, marking}
 use Rattle.naming.proofs.Distinct.{slot-small}
