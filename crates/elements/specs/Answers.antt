@@ -1,8 +1,8 @@
 -- What the answer on an element stands for in document 01's terms, and how far it reaches.
 -- Assumes nothing: these are definitions.
 use Prim.Native.Nat.{ℕ, _+_, _≤_}
-use Rattle.wire.specs.Outcome.{Outcome, ok, refused}
-use Rattle.values.specs.Value.{plain, embedded, scoped}
+use Rattle.wire.specs.Outcome.{Outcome, ok, refused, _>>=_}
+use Rattle.values.specs.Value.{Value, plain, embedded, scoped}
 use Rattle.elements.specs.Element.{Head}
 use Rattle.elements.specs.declared.Outline.{Outline}
 
@@ -18,3 +18,7 @@ Lies n (Outline.Plain start size) = (2 ≤ start) × (start + size ≤ n)
 Lies n (Outline.Embedded start) = (2 ≤ start) × (start ≤ n)
 Lies n (Outline.Scoped start from size) = (2 ≤ start) × (from ≤ size) × (start + size ≤ n)
 Lies n (Outline.Refused number place) = Unit {0}
+
+-- the same element by where its value starts, and what that is
+abbrev pub begins : (start : ℕ) → Outcome Value → Outcome Head
+begins start o = o >>= λ value. ok (record { start = start; value = value })

@@ -2,16 +2,16 @@
 use values::Found;
 use values::Shape;
 use values::kind_of;
-use values::skip;
 use values::unlisted;
 use values::value_of;
 use wire::until_zero;
 use wire::word;
 ghost use mathlib.Core.Path.{_≡_};
-ghost use Prim.Native.Nat.{_+_, _^_, _<_, _≤_};
+ghost use Prim.Native.Nat.{ℕ, _+_, _^_, _<_, _≤_};
 ghost use lib.ListN.{length};
+ghost use Rattle.values.specs.Answers.{shape, Inside};
 ghost use Rattle.elements.specs.Element.{head, elementSize};
-ghost use Rattle.elements.specs.Answers.{outline, Lies};
+ghost use Rattle.elements.specs.Answers.{outline, begins, Lies};
 
 // The most elements of a message.
 pub const ELEMENTS: u32 = 4096;
@@ -31,6 +31,19 @@ pub enum Outline {
         size: usize,
     },
     Refused(u32, usize),
+}
+
+// An element whose value starts there, at that place of the message, and has that shape.
+fn outline_of(start: usize, place: usize, value: Shape) -> Outline
+    ensures is { λ r. ⌜ outline r ≡ begins start (shape place value) ⌝ }
+    ensures inside { λ r. ⌜ ((n : ℕ) → 2 ≤ start → Inside n value → Lies (start + n) r) ⌝ }
+{
+    match value {
+        Shape::Plain(size) => Outline::Plain { start, size },
+        Shape::Embedded => Outline::Embedded { start },
+        Shape::Scoped { start: from, size } => Outline::Scoped { start, from, size },
+        Shape::Faulty => Outline::Refused(19, place),
+    }
 }
 
 // The type and the name of an element, and its value but for a document in it.
@@ -54,12 +67,7 @@ pub fn head(s: &[u8], at: usize, count: u32) -> Outline
     let Found::Listed(kind) = kind_of(t) else {
         return Outline::Refused(17, at);
     };
-    match value_of(kind, &s[start..]) {
-        Shape::Plain(size) => Outline::Plain { start, size },
-        Shape::Embedded => Outline::Embedded { start },
-        Shape::Scoped { start: from, size } => Outline::Scoped { start, from, size },
-        Shape::Faulty => Outline::Refused(19, at + start),
-    }
+    outline_of(start, at + start, value_of(kind, &s[start..]))
 }
 
 // How many bytes the element at the start of s takes, in a document that was read: a document in it is passed over by its length.
@@ -82,26 +90,4 @@ pub fn element_size(s: &[u8]) -> usize
         }
         Outline::Refused(_, _) => 0,
     }
-}
-
-// The same for an element that was read: by the lengths that it states, and nothing is checked again.
-pub fn skip_element(s: &[u8]) -> usize
-    ensures { λ r. ⌜ (0 < elementSize (now (s .entry)) → elementSize (now (s .entry)) ≤ length (now (s .entry)) → r ≡ elementSize (now (s .entry))) ⌝ }
-{
-    if s.len() == 0 {
-        return 0;
-    }
-    let n = until_zero(&s[1..]);
-    if s.len() <= n + 1 {
-        return 0;
-    }
-    let start = n + 2;
-    let Found::Listed(kind) = kind_of(s[0]) else {
-        return 0;
-    };
-    let size = skip(kind, &s[start..]);
-    if s.len() - start < size {
-        return 0;
-    }
-    start + size
 }

@@ -1,40 +1,13 @@
--- The lines of a listing, as document 01 has them. Texts are in ASCII.
+-- The lines of a listing but for that of a message, as document 01 has them. Texts are in ASCII.
 -- Assumes nothing: these are definitions.
 use Prim.Native.Nat.{ℕ}
-use mathlib.Core.List.{List, [], _∷_, _++_}
-use Rattle.lines.specs.Decimal.{decimal, signedDecimal}
-use Rattle.lines.specs.declared.Summary.{Summary}
-
-abbrev pub tab : ℕ
-tab = 9
-
-abbrev pub newline : ℕ
-newline = 10
-
--- fields parted by tabs, and a newline
-unfoldable pub line : List (List ℕ) → List ℕ
-line [] = newline ∷ []
-line (f ∷ []) = f ++ newline ∷ []
-line (f ∷ g ∷ fs) = f ++ tab ∷ line (g ∷ fs)
+use mathlib.Core.List.{List, [], _∷_}
+use Rattle.fields.specs.Decimal.{decimal}
+use Rattle.fields.specs.Fields.{line}
 
 -- `relay-log`, 1
 unfoldable pub firstLine : List ℕ
 firstLine = line ((114 ∷ 101 ∷ 108 ∷ 97 ∷ 121 ∷ 45 ∷ 108 ∷ 111 ∷ 103 ∷ []) ∷ decimal 1 ∷ [])
-
--- `msg`, offset, length, requestID, responseTo, shown flags, sequences, elements
-unfoldable pub messageLine : (offset : ℕ) → Summary → List ℕ
-messageLine offset m =
-    line (
-    (109 ∷ 115 ∷ 103 ∷ [])
-    ∷ decimal offset
-    ∷ decimal (m .length)
-    ∷ signedDecimal (m .«request_id»)
-    ∷ signedDecimal (m .«response_to»)
-    ∷ decimal (m .flags)
-    ∷ decimal (m .sequences)
-    ∷ decimal (m .elements)
-    ∷ []
-    )
 
 -- `bad`, offset, number, place counted from the message
 unfoldable pub badLine : (offset number place : ℕ) → List ℕ

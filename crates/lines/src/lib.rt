@@ -1,25 +1,10 @@
-// The lines of a listing.
-mod fields;
-
+// The lines of a listing but for that of a message.
+use fields::NEWLINE;
 use fields::number;
-use fields::signed;
+use fields::three_numbers;
 ghost use Rattle.io.specs.Counts.{Counts};
-ghost use Rattle.lines.specs.Lines.{firstLine, messageLine, badLine, endLine};
-ghost use Rattle.lines.specs.Written.{Written};
-
-// What a line tells of a message.
-pub struct Summary {
-    pub length: u32,
-    pub request_id: i32,
-    pub response_to: i32,
-    pub flags: u32,
-    pub sequences: u32,
-    pub elements: u32,
-}
-
-const TAB: u8 = b'\t';
-
-const NEWLINE: u8 = b'\n';
+ghost use Rattle.lines.specs.Lines.{firstLine, badLine, endLine};
+ghost use Rattle.fields.specs.Written.{Written};
 
 // Writes the first line to the start of out and answers its length.
 pub fn first_line(out: &mut [u8; 256]) -> usize
@@ -30,30 +15,13 @@ pub fn first_line(out: &mut [u8; 256]) -> usize
     number(out, 10, 1, NEWLINE)
 }
 
-// Writes the line of a message and answers its length.
-pub fn message_line(out: &mut [u8; 256], offset: u64, m: Summary) -> usize
-    ensures { λ r. ⌜ Written (messageLine offset m) (now (out .entry)) (now (out .exit)) r ⌝ }
-    ensures { λ r. ⌜ Counts r (now (out .exit)) ⌝ }
-{
-    put::put(out, 0, b"msg\t");
-    let at = number(out, 4, offset, TAB);
-    let at = number(out, at, m.length as u64, TAB);
-    let at = signed(out, at, m.request_id, TAB);
-    let at = signed(out, at, m.response_to, TAB);
-    let at = number(out, at, m.flags as u64, TAB);
-    let at = number(out, at, m.sequences as u64, TAB);
-    number(out, at, m.elements as u64, NEWLINE)
-}
-
 // Writes the line of a refusal and answers its length.
 pub fn bad_line(out: &mut [u8; 256], offset: u64, refusal: u32, place: usize) -> usize
     ensures { λ r. ⌜ Written (badLine offset refusal place) (now (out .entry)) (now (out .exit)) r ⌝ }
     ensures { λ r. ⌜ Counts r (now (out .exit)) ⌝ }
 {
     put::put(out, 0, b"bad\t");
-    let at = number(out, 4, offset, TAB);
-    let at = number(out, at, refusal as u64, TAB);
-    number(out, at, place as u64, NEWLINE)
+    three_numbers(out, 4, offset, refusal as u64, place as u64, NEWLINE)
 }
 
 // Writes the last line and answers its length.

@@ -5,7 +5,8 @@ use mathlib.Core.Bool.{true, false}
 use mathlib.Core.Path.{_≡_}
 use mathlib.Core.List.{List, [], _∷_, _++_}
 use lib.ListN.{length, drop}
-use Rattle.lines.specs.Lines.{firstLine, messageLine, badLine, endLine}
+use Rattle.summary.specs.MessageLine.{messageLine}
+use Rattle.lines.specs.Lines.{firstLine, badLine, endLine}
 use Rattle.listing.specs.Next.{short, next}
 use Rattle.listing.specs.declared.Step.the-variants.{Message, Bad, More, End}
 

@@ -11,7 +11,7 @@ use Rattle.protocol.specs.Layout.{maxLength, messageLength}
 use Rattle.protocol.specs.Read.{read}
 use Rattle.protocol.specs.declared.Edition.{Edition}
 use Rattle.protocol.specs.declared.View.{View}
-use Rattle.lines.specs.declared.Summary.{Summary}
+use Rattle.summary.specs.declared.Summary.{Summary}
 use Rattle.listing.specs.declared.Step.{Step}
 use Rattle.listing.specs.declared.Step.the-variants.{Message, Bad, More, End}
 

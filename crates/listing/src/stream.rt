@@ -1,9 +1,9 @@
 // A stream of messages back to back, of which a buffer holds a part.
 use crate::Step;
 use header::LENGTH;
-use lines::Summary;
 use protocol::Edition;
 use protocol::Verdict;
+use summary::Summary;
 use wire::under;
 use wire::word;
 ghost use mathlib.Core.Path.{_≡_};

@@ -1,8 +1,8 @@
 // Checks 22 to 24: names that must differ.
-use elements::skip_element;
 use protocol::Sequence;
 use protocol::Verdict;
 use protocol::refused;
+use skipping::skip_element;
 use wire::until_zero;
 use wire::word;
 ghost use mathlib.Core.Bool.{_||_};

@@ -1,8 +1,8 @@
 // Lists the messages that standard input has back to back, as document 01, "The listing", says.
 use libc::STDIN_FILENO;
 use libc::STDOUT_FILENO;
-use lines::Summary;
 use listing::Step;
+use summary::Summary;
 ghost use mathlib.Core.Path.{_≡_};
 ghost use Prim.Native.Nat.{_+_, _-_, _<_, _≤_};
 ghost use lib.ListN.{length};
@@ -26,7 +26,7 @@ fn print_first() {
 
 fn print_message(offset: u64, m: Summary) {
     let mut line = [0u8; 256];
-    let n = lines::message_line(&mut line, offset, m);
+    let n = summary::message_line(&mut line, offset, m);
     io::write_all(STDOUT_FILENO, &line[..n]);
 }
 

@@ -3,6 +3,7 @@
 use borrow.Author.Needs.{needs}
 use native.Mathlib.Omega.{arith}
 use borrow.Author.Tests.{le-leb, lt-leb}
+use mathlib.Core.Path.{_≡_}
 use Prim.Native.Nat.{_+_, _-_}
 use lib.ListN.{length, take, drop}
 use Rattle.wire.proofs.Bytes.{until-le}
@@ -47,45 +48,17 @@ returns-4 c =
 returns-5 : tie.Need-returns-5
 unfolding head maxElements _>>=_ refuse
 returns-5 c =
-    let b = c .before .before .before .before .before .before .before .before in
+    let k = c .before .before .before .before in
+    let b = k .before .before in
     let u = b .before .before in
-    let xs = u .before .before .before .before .before .before .before .args .s .now in
-    let at = u .before .before .before .before .before .before .before .args .at in (
-      rw (head, lt-leb _ _ (u .before .before .before .before .before .if1 .left), ← b .kind-of .ensures at, c .before .before .before .before .before .before .kind .given .1, ← rest-part 1 xs, ← u .until-zero .ensures, lt-leb _ _ (b .before .if3 .left), ← rest-part (u .until-zero .result + 2) xs, ← c .before .before .before .value-of .ensures .0 (at + (u .until-zero .result + 2)), c .before .size .given .1),
-      omega (arith, rw (c .before .size .given .1) at (c .before .before .before .value-of .ensures .1), c .before .before .before .before .value-of-arg .given .2),
-    )
-
-returns-6 : tie.Need-returns-6
-unfolding head maxElements _>>=_ refuse
-returns-6 c =
-    let b = c .before .before .before .before .before .before .before in
-    let u = b .before .before in
-    let xs = u .before .before .before .before .before .before .before .args .s .now in
-    let at = u .before .before .before .before .before .before .before .args .at in (
-      rw (head, lt-leb _ _ (u .before .before .before .before .before .if1 .left), ← b .kind-of .ensures at, c .before .before .before .before .before .kind .given .1, ← rest-part 1 xs, ← u .until-zero .ensures, lt-leb _ _ (b .before .if3 .left), ← rest-part (u .until-zero .result + 2) xs, ← c .before .before .value-of .ensures .0 (at + (u .until-zero .result + 2)), c .enum-told2 .given .1),
-      omega arith,
-    )
-
-returns-7 : tie.Need-returns-7
-unfolding head maxElements _>>=_ refuse
-returns-7 c =
-    let b = c .before .before .before .before .before .before .before .before in
-    let u = b .before .before in
-    let xs = u .before .before .before .before .before .before .before .args .s .now in
-    let at = u .before .before .before .before .before .before .before .args .at in (
-      rw (head, lt-leb _ _ (u .before .before .before .before .before .if1 .left), ← b .kind-of .ensures at, c .before .before .before .before .before .before .kind .given .1, ← rest-part 1 xs, ← u .until-zero .ensures, lt-leb _ _ (b .before .if3 .left), ← rest-part (u .until-zero .result + 2) xs, ← c .before .before .before .value-of .ensures .0 (at + (u .until-zero .result + 2)), c .before .from .given .1),
-      omega (arith, rw (c .before .from .given .1) at (c .before .before .before .value-of .ensures .1), c .before .before .before .before .value-of-arg .given .2),
-    )
-
-returns-8 : tie.Need-returns-8
-unfolding head maxElements _>>=_ refuse
-returns-8 c =
-    let b = c .before .before .before .before .before .before .before in
-    let u = b .before .before in
-    let xs = u .before .before .before .before .before .before .before .args .s .now in
-    let at = u .before .before .before .before .before .before .before .args .at in (
-      rw (head, lt-leb _ _ (u .before .before .before .before .before .if1 .left), ← b .kind-of .ensures at, c .before .before .before .before .before .kind .given .1, ← rest-part 1 xs, ← u .until-zero .ensures, lt-leb _ _ (b .before .if3 .left), ← rest-part (u .until-zero .result + 2) xs, ← c .before .before .value-of .ensures .0 (at + (u .until-zero .result + 2)), c .enum-told3 .given .1),
-      tt,
+    let f = u .before .before .before .before .before in
+    let xs = f .before .before .args .s .now in
+    let at = f .before .before .args .at in
+    let start = u .until-zero .result + 2 in
+    let value = c .before .value-of .ensures in
+    let rest : start + length (take (length xs - start) (drop start xs)) ≡ length xs = omega (arith, c .before .before .value-of-arg .given .2) in (
+      rw (head, lt-leb _ _ (f .if1 .left), ← b .kind-of .ensures at, k .kind .given .1, ← rest-part 1 xs, ← u .until-zero .ensures, lt-leb _ _ (b .before .if3 .left), ← rest-part start xs, ← value .0 (at + start)) (c .outline-of .ensures .0),
+      rw rest at (c .outline-of .ensures .1 _ (omega arith) (value .1)),
     )
 
 pub head-spec : {M : Type 1} → statement M
@@ -111,13 +84,7 @@ head-spec =
     (λ c. search needs)
     (λ c. search needs)
     (λ c. search needs)
+    (λ c. search needs)
     (λ c κs. search needs)
-    (λ c. search needs)
-    (λ c. search needs)
-    (λ c. search needs)
-    (λ c. search needs)
-    (λ c. search needs)
-    returns-5
-    returns-6
-    returns-7
-    returns-8)
+    (λ c κs. search needs)
+    returns-5)

@@ -4,8 +4,8 @@ use mathlib.Core.List.{[], _∷_}
 use native.Mathlib.Omega.{arith}
 use borrow.Author.Needs.{needs}
 use Rattle.lines.specs.Lines.{endLine}
-use Rattle.lines.proofs.Texts.{begun, reworded, counts}
-use Rattle.lines.proofs.Lines.{two-fields}
+use Rattle.fields.proofs.Lines.{two-fields}
+use Rattle.fields.proofs.Texts.{begun, ended}
 use Rattle.lines.proofs.end_line.Statement.{statement}
 use Rattle.lines.proofs.end_line.Tie as tie
 
@@ -14,8 +14,7 @@ unfolding endLine
 returns c =
     let p2 = c .before .before in
     let w0 = begun (101 ∷ 110 ∷ 100 ∷ 9 ∷ []) (p2 .put .ensures) (omega (arith, p2 .before .before .put-arg .given .0 .1)) in
-    let w = c .number .ensures .0 _ _ w0 in
-    (reworded (two-fields _ _) w, counts w)
+    ended (two-fields _ _) (c .number .ensures .0 _ _ w0)
 
 pub end-line-spec : {M : Type 1} → statement M
 end-line-spec =

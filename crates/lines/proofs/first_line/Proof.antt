@@ -4,8 +4,8 @@ use mathlib.Core.List.{[], _∷_}
 use native.Mathlib.Omega.{arith}
 use borrow.Author.Needs.{needs}
 use Rattle.lines.specs.Lines.{firstLine}
-use Rattle.lines.proofs.Texts.{begun, reworded, counts}
-use Rattle.lines.proofs.Lines.{two-fields}
+use Rattle.fields.proofs.Lines.{two-fields}
+use Rattle.fields.proofs.Texts.{begun, ended}
 use Rattle.lines.proofs.first_line.Statement.{statement}
 use Rattle.lines.proofs.first_line.Tie as tie
 
@@ -14,8 +14,7 @@ unfolding firstLine
 returns c =
     let p2 = c .before .before in
     let w0 = begun (114 ∷ 101 ∷ 108 ∷ 97 ∷ 121 ∷ 45 ∷ 108 ∷ 111 ∷ 103 ∷ 9 ∷ []) (p2 .put .ensures) (omega (arith, p2 .before .before .put-arg .given .0 .1)) in
-    let w = c .number .ensures .0 _ _ w0 in
-    (reworded (two-fields _ _) w, counts w)
+    ended (two-fields _ _) (c .number .ensures .0 _ _ w0)
 
 pub first-line-spec : {M : Type 1} → statement M
 first-line-spec =

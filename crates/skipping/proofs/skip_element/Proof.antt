@@ -1,4 +1,4 @@
--- `elements::skip_element` meets its contract: where the element was read, each step passes over a part of it.
+-- `skipping::skip_element` meets its contract: where the element was read, each step passes over a part of it.
 -- Assumes nothing.
 use Prim.Native.Nat.{ℕ, _+_, _-_}
 use native.Mathlib.Omega.{arith}
@@ -11,9 +11,9 @@ use Rattle.wire.proofs.Bytes.{until-le}
 use Rattle.wire.proofs.Parts.{rest-part}
 use Rattle.values.specs.Value.{Rule}
 use Rattle.values.specs.Answers.{ruleOf, span}
-use Rattle.elements.proofs.Span.{Passed, element-is}
-use Rattle.elements.proofs.skip_element.Statement.{statement}
-use Rattle.elements.proofs.skip_element.Tie as tie
+use Rattle.skipping.proofs.Span.{Passed, element-is}
+use Rattle.skipping.proofs.skip_element.Statement.{statement}
+use Rattle.skipping.proofs.skip_element.Tie as tie
 
 until-is : (c : tie.After-until-zero) →
     c .until-zero .result ≡ untilZero (drop 1 (c .before .before .before .before .args .s .now))

@@ -1,13 +1,13 @@
--- `lines::fields::number` meets its contract: the digits that `io` spells are put behind the text, and the byte behind them.
+-- `fields::number` meets its contract: the digits that `io` spells are put behind the text, and the byte behind them.
 -- Assumes nothing.
 use Prim.Native.Nat.{_≤_}
 use mathlib.Core.Path.{_∙_}
 use native.Mathlib.Omega.{arith}
 use borrow.Author.Needs.{needs}
-use Rattle.lines.proofs.Digits.{spelled-decimal, few-digits}
-use Rattle.lines.proofs.Texts.{field-behind}
-use Rattle.lines.proofs.fields.number.Statement.{statement}
-use Rattle.lines.proofs.fields.number.Tie as tie
+use Rattle.fields.proofs.Digits.{spelled-decimal, few-digits}
+use Rattle.fields.proofs.Texts.{field-behind}
+use Rattle.fields.proofs.number.Statement.{statement}
+use Rattle.fields.proofs.number.Tie as tie
 
 few : (c : tie.After-put) → c .before .before .before .decimal .result ≤ 20
 few c =

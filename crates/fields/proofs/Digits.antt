@@ -13,7 +13,7 @@ use mir.Val.{SFits}
 use borrow.Author.Tests.{lt-ltb, le-ltb, ltb-true, ltb-false}
 use Rattle.io.specs.Digits.{Fewest, digits as spelled}
 use Rattle.wire.specs.Bytes.{bits32}
-use Rattle.lines.specs.Decimal.{digits, decimal, signedDecimal}
+use Rattle.fields.specs.Decimal.{digits, decimal, signedDecimal}
 
 below-pow : (j : ℕ) → j < 10 ^ j
 below-pow zero = omega arith

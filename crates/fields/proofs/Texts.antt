@@ -9,7 +9,7 @@ use lib.ListN.{length, take, drop, set, length-append, length-drop}
 use lib.Seq.{take-at, drop-at, drop-drop, set-split, append-snoc}
 use Rattle.wire.specs.Bytes.{put}
 use Rattle.wire.proofs.Parts.{put-fits}
-use Rattle.lines.specs.Written.{Written}
+use Rattle.fields.specs.Written.{Written}
 
 module _ {text old new : List ℕ} {at : ℕ} (w : Written text old new at) where
   front : take at new ≡ text
@@ -39,10 +39,6 @@ begun {old} xs e h =
     let none : Written [] old old 0 = record { is = refl; size = refl } in
     rw e (put-behind none xs (omega arith))
 
--- the text in other words
-pub reworded : {text other old new : List ℕ} {r : ℕ} → text ≡ other → Written text old new r → Written other old new r
-reworded e w = rw e at w
-
 -- bytes are put behind the text, and a byte behind them
 pub field-behind : {text old new mid xs ds : List ℕ} {at k : ℕ} (b : ℕ) → Written text old new at → mid ≡ put at xs new → xs ≡ ds → k ≡ length xs → at + k < length new
     → Written (text ++ (ds ++ b ∷ [])) old (set mid (at + k) b) (at + k + 1)
@@ -52,7 +48,7 @@ field-behind {text} {old} {new} {mid} {xs} {ds} {at} {k} b w put-is ds-is k-is h
     let wide : length mid ≡ length (text ++ xs) + (length old - (at + k)) = ap length (one .is) ∙ length-append (text ++ xs) (drop (at + k) old) ∙ rw (length-drop (at + k) old) in
     rw (← ds-is, ← append-assoc) (byte-behind one b (omega (arith, long, wide, w .size, one .size)))
 
--- the length of a text that was written
-pub counts : {text old new : List ℕ} {r : ℕ} → Written text old new r → (r ≤ length new) × (r ≡ length (take r new))
-counts {text} {old} {new} {r} w =
-    (omega (arith, ap length (w .is), length-append text (drop r old), w .size), w .size ∙ ap length (sym (front w)))
+-- the text in other words, and its length
+pub ended : {text other old new : List ℕ} {r : ℕ} → text ≡ other → Written text old new r → Written other old new r × ((r ≤ length new) × (r ≡ length (take r new)))
+ended {text} {other} {old} {new} {r} e w =
+    (rw e at w, (omega (arith, ap length (w .is), length-append text (drop r old), w .size), w .size ∙ ap length (sym (front w))))
