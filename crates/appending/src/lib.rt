@@ -1,11 +1,11 @@
 // Appending a document sequence to a message.
 mod checks;
 
+use answers::refusal;
 use checks::checks;
 use documents::Run;
 use flags::checksum_size;
 use naming::names::taken;
-use opmsg::answer::refusal;
 use protocol::Edition;
 use protocol::Reading;
 use protocol::Sequence;

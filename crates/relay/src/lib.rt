@@ -1,6 +1,6 @@
 // Forwarding a message.
+use answers::refusal;
 use flags::checksum_size;
-use opmsg::answer::refusal;
 use opmsg::read;
 use protocol::Edition;
 use protocol::Reading;

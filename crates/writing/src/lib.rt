@@ -1,10 +1,10 @@
 // Writing a message from its ids, flag word and body. The body is read where it lies, and nothing is stored before the answer is known.
+use answers::refusal;
 use bson::Walk;
 use flags::all_known;
 use flags::checksum_size;
 use header::LENGTH;
 use naming::names::body_names;
-use opmsg::answer::refusal;
 use protocol::Edition;
 use protocol::Reading;
 use protocol::Verdict;
