@@ -1,13 +1,17 @@
-// Checks 10 to 21: the sections of a message, from left to right.
+// Checks 10 to 21: the sections of a message, from left to right. A slice starts at the place `at` of the message, and ends below 2 ^ 31.
+use bson::Walk;
 use protocol::Edition;
 use protocol::Sequence;
 use protocol::Verdict;
-use section::Part;
-use section::section;
+use sequences::Part;
+use sequences::refused;
+use sequences::sequence_section;
 ghost use mathlib.Core.Path.{_≡_};
-ghost use Prim.Native.Nat.{_^_, _<_};
+ghost use Prim.Native.Nat.{ℕ, _+_, _^_, _<_};
 ghost use lib.ListN.{length};
+ghost use Rattle.protocol.specs.Sections.{Parts, bodySection, sectionAt};
 ghost use Rattle.protocol.specs.View.{noSequence};
+ghost use Rattle.sequences.specs.Answers.{partOf, Reaches, Carries};
 ghost use Rattle.sections.specs.Answers.{Listed};
 
 // All sections of a message. Where they are refused, the numbers are zero.
@@ -18,6 +22,43 @@ pub struct Content {
     pub count: usize,
     pub sequences: [Sequence; 16],
     pub elements: u32,
+}
+
+// Kind 0; xs begins with the kind byte. `start` is that of a body passed before, or 0.
+fn body_section(xs: &[u8], at: usize, start: usize, elements: u32) -> Part
+    requires { ⌜ (0 < length (now xs)) × (at + length (now xs) < 2 ^ 31) ⌝ }
+    ensures is { λ r. ⌜ ((p : Parts) (number : ℕ) → Carries p start number elements → partOf at p r ≡ bodySection at (now (xs .entry)) p) ⌝ }
+    ensures inside { λ r. ⌜ Reaches (now (xs .entry)) r ⌝ }
+{
+    if 0 < start {
+        return refused(11, at);
+    }
+    match bson::document(&xs[1..], (at + 1) as u32, elements) {
+        Walk::Past { size, count } => Part::Body {
+            size,
+            elements: count,
+        },
+        Walk::Refused { number, place } => Part::Refused { number, place },
+    }
+}
+
+// The section at the start of xs.
+fn section(e: Edition, xs: &[u8], at: usize, start: usize, count: usize, elements: u32) -> Part
+    requires { ⌜ (0 < length (now xs)) × (at + length (now xs) < 2 ^ 31) ⌝ }
+    ensures is { λ r. ⌜ ((p : Parts) → Carries p start count elements → partOf at p r ≡ sectionAt e at (now (xs .entry)) p) ⌝ }
+    ensures inside { λ r. ⌜ Reaches (now (xs .entry)) r ⌝ }
+{
+    let kind = xs[0];
+    if kind == 0 {
+        return body_section(xs, at, start, elements);
+    }
+    if kind != 1 {
+        return refused(10, at);
+    }
+    if !e.sequences {
+        return refused(10, at);
+    }
+    sequence_section(xs, at, count, elements)
 }
 
 // No sections, with a verdict.

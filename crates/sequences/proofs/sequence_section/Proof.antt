@@ -1,4 +1,4 @@
--- `section::sequence_section` meets its contract: each way out has its tests.
+-- `sequences::sequence_section` meets its contract: each way out has its tests.
 -- Assumes nothing.
 use mathlib.Core.Path.{sym, _∙_}
 use native.Mathlib.Omega.{arith}
@@ -8,9 +8,9 @@ use Rattle.wire.specs.Outcome.{refuse, _>>=_}
 use Rattle.wire.proofs.Bytes.{under-false}
 use Rattle.wire.proofs.Parts.{rest-part}
 use Rattle.protocol.specs.Sections.{maxSequences, sequenceSection}
-use Rattle.section.specs.Answers.{sequenceNamed}
-use Rattle.section.proofs.sequence_section.Statement.{statement}
-use Rattle.section.proofs.sequence_section.Tie as tie
+use Rattle.sequences.specs.Answers.{sequenceNamed}
+use Rattle.sequences.proofs.sequence_section.Statement.{statement}
+use Rattle.sequences.proofs.sequence_section.Tie as tie
 
 returns : tie.Need-returns
 unfolding sequenceSection maxSequences _>>=_ refuse

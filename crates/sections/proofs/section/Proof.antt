@@ -1,12 +1,12 @@
--- `section::section` meets its contract: the kind byte decides.
+-- `sections::section` meets its contract: the kind byte decides.
 -- Assumes nothing.
 use borrow.Author.Needs.{needs}
 use borrow.Author.Tests.{eq-eqb, ne-eqb, not-true, not-false}
 use Rattle.wire.specs.Outcome.{refuse, _>>=_}
 use Rattle.protocol.specs.Flags.{knows}
 use Rattle.protocol.specs.Sections.{sectionOf, sectionAt}
-use Rattle.section.proofs.section.Statement.{statement}
-use Rattle.section.proofs.section.Tie as tie
+use Rattle.sections.proofs.section.Statement.{statement}
+use Rattle.sections.proofs.section.Tie as tie
 
 returns : tie.Need-returns
 unfolding sectionAt sectionOf knows _>>=_ refuse

@@ -1,4 +1,4 @@
--- `section::sequence_named` meets its contract: each way out has its tests.
+-- `sequences::sequence_named` meets its contract: each way out has its tests.
 -- Assumes nothing.
 use Prim.Native.Nat.{ℕ, _+_, _-_}
 use mathlib.Core.Path.{_≡_, ap, _∙_}
@@ -9,9 +9,9 @@ use borrow.Author.Needs.{needs}
 use borrow.Author.Tests.{le-leb, lt-leb, eq-eqb, ne-eqb}
 use Rattle.wire.specs.Outcome.{refuse, _>>=_}
 use Rattle.wire.specs.Bytes.{untilZero}
-use Rattle.section.specs.Answers.{sequenceNamed}
-use Rattle.section.proofs.sequence_named.Statement.{statement}
-use Rattle.section.proofs.sequence_named.Tie as tie
+use Rattle.sequences.specs.Answers.{sequenceNamed}
+use Rattle.sequences.proofs.sequence_named.Statement.{statement}
+use Rattle.sequences.proofs.sequence_named.Tie as tie
 
 -- the slice ends behind the section; the definition counts its bytes by the size
 identifier : (xs : List ℕ) (size : ℕ) {n : ℕ} → n ≡ untilZero (take (1 + size - 5) (drop 5 xs)) → n ≡ untilZero (take (size - 4) (drop 5 xs))

@@ -1,8 +1,6 @@
-// Checks 10 to 21: one section of a message. A slice starts at the place `at` of the message, and ends below 2 ^ 31.
-use bson::Walk;
+// Checks 12 to 21: a section that is a document sequence. A slice starts at the place `at` of the message, and ends below 2 ^ 31.
 use documents::Run;
 use documents::documents;
-use protocol::Edition;
 use protocol::Sequence;
 use wire::under;
 use wire::until_zero;
@@ -10,8 +8,8 @@ use wire::word;
 ghost use mathlib.Core.Path.{_≡_};
 ghost use Prim.Native.Nat.{ℕ, _+_, _^_, _<_, _≤_};
 ghost use lib.ListN.{length};
-ghost use Rattle.protocol.specs.Sections.{Parts, bodySection, sequenceRun, sequenceSection, sectionAt};
-ghost use Rattle.section.specs.Answers.{partOf, Reaches, Carries, sequenceNamed};
+ghost use Rattle.protocol.specs.Sections.{Parts, sequenceRun, sequenceSection};
+ghost use Rattle.sequences.specs.Answers.{partOf, Reaches, Carries, sequenceNamed};
 
 // The most sequences of a message.
 pub const SEQUENCES: usize = 16;
@@ -34,28 +32,10 @@ pub enum Part {
     },
 }
 
-fn refused(number: u32, place: usize) -> Part
+pub fn refused(number: u32, place: usize) -> Part
     ensures { λ r. ⌜ r ≡ Part.Refused number place ⌝ }
 {
     Part::Refused { number, place }
-}
-
-// Kind 0; xs begins with the kind byte. `start` is that of a body passed before, or 0.
-fn body_section(xs: &[u8], at: usize, start: usize, elements: u32) -> Part
-    requires { ⌜ (0 < length (now xs)) × (at + length (now xs) < 2 ^ 31) ⌝ }
-    ensures is { λ r. ⌜ ((p : Parts) (number : ℕ) → Carries p start number elements → partOf at p r ≡ bodySection at (now (xs .entry)) p) ⌝ }
-    ensures inside { λ r. ⌜ Reaches (now (xs .entry)) r ⌝ }
-{
-    if 0 < start {
-        return refused(11, at);
-    }
-    match bson::document(&xs[1..], (at + 1) as u32, elements) {
-        Walk::Past { size, count } => Part::Body {
-            size,
-            elements: count,
-        },
-        Walk::Refused { number, place } => Part::Refused { number, place },
-    }
 }
 
 // The documents of a sequence whose identifier has n bytes; the section's size counts from behind the kind byte.
@@ -106,7 +86,7 @@ fn sequence_named(xs: &[u8], at: usize, size: usize, elements: u32) -> Part
 }
 
 // Kind 1; xs begins with the kind byte. `count` sequences were passed before.
-fn sequence_section(xs: &[u8], at: usize, count: usize, elements: u32) -> Part
+pub fn sequence_section(xs: &[u8], at: usize, count: usize, elements: u32) -> Part
     requires { ⌜ (0 < length (now xs)) × (at + length (now xs) < 2 ^ 31) ⌝ }
     ensures is { λ r. ⌜ ((p : Parts) (start : ℕ) → Carries p start count elements → partOf at p r ≡ sequenceSection at (now (xs .entry)) p) ⌝ }
     ensures inside { λ r. ⌜ Reaches (now (xs .entry)) r ⌝ }
@@ -126,23 +106,4 @@ fn sequence_section(xs: &[u8], at: usize, count: usize, elements: u32) -> Part
         return refused(12, at + 1);
     }
     sequence_named(xs, at, size, elements)
-}
-
-// The section at the start of xs.
-pub fn section(e: Edition, xs: &[u8], at: usize, start: usize, count: usize, elements: u32) -> Part
-    requires { ⌜ (0 < length (now xs)) × (at + length (now xs) < 2 ^ 31) ⌝ }
-    ensures is { λ r. ⌜ ((p : Parts) → Carries p start count elements → partOf at p r ≡ sectionAt e at (now (xs .entry)) p) ⌝ }
-    ensures inside { λ r. ⌜ Reaches (now (xs .entry)) r ⌝ }
-{
-    let kind = xs[0];
-    if kind == 0 {
-        return body_section(xs, at, start, elements);
-    }
-    if kind != 1 {
-        return refused(10, at);
-    }
-    if !e.sequences {
-        return refused(10, at);
-    }
-    sequence_section(xs, at, count, elements)
 }

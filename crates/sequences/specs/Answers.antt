@@ -10,7 +10,7 @@ use Rattle.wire.specs.Bytes.{untilZero}
 use Rattle.wire.specs.Walk.{Step, Reader}
 use Rattle.protocol.specs.Sections.{body, sequence, bodyStart, sequencesOf, Parts, behind, sequenceRun}
 use Rattle.protocol.specs.Answers.{Filled}
-use Rattle.section.specs.declared.Part.{Part}
+use Rattle.sequences.specs.declared.Part.{Part}
 
 -- a section at a place, behind those passed
 abbrev pub partOf : ℕ → Parts → Part → Outcome (Step Parts)

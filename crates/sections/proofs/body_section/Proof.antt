@@ -1,13 +1,13 @@
--- `section::body_section` meets its contract: each way out has its test, or what the document is.
+-- `sections::body_section` meets its contract: each way out has its test, or what the document is.
 -- Assumes nothing.
 use borrow.Author.Needs.{needs}
 use borrow.Author.Tests.{lt-ltb, le-ltb}
 use Rattle.wire.specs.Outcome.{refuse, _>>=_}
 use Rattle.wire.proofs.Parts.{rest-part}
 use Rattle.protocol.specs.Sections.{bodySection}
-use Rattle.section.proofs.Reached.{body-reaches}
-use Rattle.section.proofs.body_section.Statement.{statement}
-use Rattle.section.proofs.body_section.Tie as tie
+use Rattle.sections.proofs.Reached.{body-reaches}
+use Rattle.sections.proofs.body_section.Statement.{statement}
+use Rattle.sections.proofs.body_section.Tie as tie
 
 returns : tie.Need-returns
 unfolding bodySection _>>=_ refuse
