@@ -17,6 +17,7 @@ ghost use Rattle.protocol.specs.Sections.{Parts};
 ghost use Rattle.protocol.specs.View.{noView, viewOf, answer};
 ghost use Rattle.protocol.specs.Answers.{Shows};
 
+// What a refusal shows: nothing.
 fn no_view() -> View
     ensures { λ r. ⌜ r ≡ noView ⌝ }
 {

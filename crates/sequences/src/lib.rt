@@ -32,6 +32,7 @@ pub enum Part {
     },
 }
 
+// A section that is refused.
 pub fn refused(number: u32, place: usize) -> Part
     ensures { λ r. ⌜ r ≡ Part.Refused number place ⌝ }
 {
