@@ -3,7 +3,7 @@ use header::LENGTH;
 use protocol::Edition;
 use protocol::Verdict;
 use protocol::refused;
-use sections::SEQUENCES;
+use sequences::SEQUENCES;
 use wire::until_zero;
 ghost use mathlib.Core.Path.{_≡_};
 ghost use Prim.Native.Nat.{_+_, _^_, _<_};

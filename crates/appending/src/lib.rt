@@ -1,7 +1,7 @@
 // Appending a document sequence to a message.
+use answers::refusal;
 use append_checks::Found;
 use append_checks::examine;
-use opmsg::answer::refusal;
 use protocol::Edition;
 use protocol::Reading;
 use protocol::Sequence;

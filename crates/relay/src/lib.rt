@@ -1,5 +1,5 @@
 // Forwarding a message.
-use opmsg::answer::refusal;
+use answers::refusal;
 use opmsg::read;
 use protocol::Edition;
 use protocol::Reading;

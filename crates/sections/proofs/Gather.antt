@@ -14,10 +14,10 @@ use Rattle.protocol.specs.Sections.{maxSequences, Section, body, sequence, body
 use Rattle.protocol.specs.Names.{part}
 use Rattle.protocol.specs.View.{noSequence, padded}
 use Rattle.protocol.specs.Answers.{Filled, none, Shows}
-use Rattle.sections.specs.Answers.{partOf, Reaches, Carries}
+use Rattle.sequences.specs.Answers.{partOf, Reaches, Carries}
 use Rattle.protocol.specs.declared.Edition.{Edition}
 use Rattle.protocol.specs.declared.Sequence.{Sequence}
-use Rattle.sections.specs.declared.Part.{Part}
+use Rattle.sequences.specs.declared.Part.{Part}
 use Rattle.protocol.proofs.Section.{SectionRead, a-body, a-sequence, section-read}
 use Rattle.protocol.proofs.Shown.{padded-set, sequences-append, Started, started-append, body-behind}
 

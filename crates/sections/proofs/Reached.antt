@@ -11,8 +11,8 @@ use Rattle.bson.specs.Document.{documentAt, maxLevels, told}
 use Rattle.bson.specs.declared.Walk.{Walk}
 use Rattle.documents.proofs.Turns.{past-framed}
 use Rattle.documents.proofs.Fill.{document-filled}
-use Rattle.sections.specs.Answers.{Reaches}
-use Rattle.sections.specs.declared.Part.{Part}
+use Rattle.sequences.specs.Answers.{Reaches}
+use Rattle.sequences.specs.declared.Part.{Part}
 
 pub body-reaches : (at : ℕ) (xs : List ℕ) (count size more : ℕ) (w : Walk) → told w ≡ documentAt maxLevels at (take (length xs - 1) (drop 1 xs)) count → w ≡ Walk.Past size more
     → Reaches xs (Part.Body size more)

@@ -1,7 +1,7 @@
 // Writing a message from its ids, flag word and body. Nothing is stored before the answer is known.
+use answers::refusal;
 use bson::Walk;
 use flags::checksum_size;
-use opmsg::answer::refusal;
 use protocol::Edition;
 use protocol::Reading;
 use protocol::Verdict;

@@ -1,10 +1,10 @@
--- `opmsg::answer::no_view` meets its contract.
+-- `answers::no_view` meets its contract.
 -- Assumes nothing.
 use borrow.Author.Needs.{needs}
 use Rattle.protocol.specs.Sections.{maxSequences}
 use Rattle.protocol.specs.View.{padded, noView}
-use Rattle.opmsg.proofs.answer.no_view.Statement.{statement}
-use Rattle.opmsg.proofs.answer.no_view.Tie as tie
+use Rattle.answers.proofs.no_view.Statement.{statement}
+use Rattle.answers.proofs.no_view.Tie as tie
 
 returns : tie.Need-returns
 unfolding noView padded maxSequences

@@ -1,9 +1,9 @@
--- `opmsg::answer::refusal` meets its contract.
+-- `answers::refusal` meets its contract.
 -- Assumes nothing.
 use borrow.Author.Needs.{needs}
 use Rattle.protocol.specs.View.{answer}
-use Rattle.opmsg.proofs.answer.refusal.Statement.{statement}
-use Rattle.opmsg.proofs.answer.refusal.Tie as tie
+use Rattle.answers.proofs.refusal.Statement.{statement}
+use Rattle.answers.proofs.refusal.Tie as tie
 
 returns : tie.Need-returns
 unfolding answer

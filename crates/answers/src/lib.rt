@@ -1,4 +1,4 @@
-// Answers by value.
+// What a call answers.
 use flags::kept;
 use protocol::Edition;
 use protocol::Reading;
@@ -12,10 +12,12 @@ ghost use mathlib.Core.Path.{_≡_};
 ghost use Prim.Native.Nat.{_+_, _^_, _<_, _≤_};
 ghost use lib.ListN.{length};
 ghost use Rattle.wire.specs.Outcome.{refused};
+ghost use Rattle.wire.specs.Bytes.{wordAt, signed};
 ghost use Rattle.protocol.specs.Sections.{Parts};
 ghost use Rattle.protocol.specs.View.{noView, viewOf, answer};
 ghost use Rattle.protocol.specs.Answers.{Shows};
 
+// What a refusal shows: nothing.
 fn no_view() -> View
     ensures { λ r. ⌜ r ≡ noView ⌝ }
 {
@@ -45,14 +47,22 @@ pub fn refusal(number: u32, place: usize) -> Reading
     }
 }
 
+// The id at a place of the header.
+fn id_at(s: &[u8], at: usize) -> i32
+    requires { ⌜ at + 4 ≤ length (now s) ⌝ }
+    ensures { λ r. ⌜ r ≡ signed (wordAt at (now (s .entry))) ⌝ }
+{
+    signed(word(&s[at..]))
+}
+
 // The view of a message with such sections.
-pub(crate) fn view(e: Edition, s: &[u8], c: Content) -> View
+pub fn view(e: Edition, s: &[u8], c: Content) -> View
     requires { ⌜ (20 ≤ length (now s)) × (c .body + c .«body_length» < 2 ^ 32) × (c .count < 2 ^ 32) ⌝ }
     ensures { λ r. ⌜ ((p : Parts) → Shows (p .sections) (c .body) (c .«body_length») (c .sequences) (c .count) → p .elements ≡ c .elements → r ≡ viewOf e (now (s .entry)) p) ⌝ }
 {
     let length = word(s);
-    let request_id = signed(word(&s[4..]));
-    let response_to = signed(word(&s[8..]));
+    let request_id = id_at(s, 4);
+    let response_to = id_at(s, 8);
     let flags = kept(e.bits, word(&s[16..]));
     let sequences = c.sequences;
     View {

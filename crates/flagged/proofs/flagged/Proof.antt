@@ -1,4 +1,4 @@
--- `header::flagged` meets its contract: each way out has its tests.
+-- `flagged::flagged` meets its contract: each way out has its tests.
 -- Assumes nothing.
 use mathlib.Core.Path.{ap, _∙_}
 use native.Mathlib.Omega.{arith}
@@ -9,8 +9,8 @@ use Rattle.wire.specs.Bytes.{word, wordAt}
 use Rattle.wire.proofs.Parts.{rest-part}
 use Rattle.protocol.specs.Read.{flagged}
 use Rattle.protocol.proofs.Limits.{checksum-small}
-use Rattle.header.proofs.flagged.Statement.{statement}
-use Rattle.header.proofs.flagged.Tie as tie
+use Rattle.flagged.proofs.flagged.Statement.{statement}
+use Rattle.flagged.proofs.flagged.Tie as tie
 
 returns : tie.Need-returns
 unfolding flagged _>>=_ refuse wordAt

@@ -1,4 +1,4 @@
--- `header::checksum_differs` meets its contract: where there is a checksum, it is compared with that of the bytes before it.
+-- `flagged::checksum_differs` meets its contract: where there is a checksum, it is compared with that of the bytes before it.
 -- Assumes nothing.
 use mathlib.Core.Path.{sym}
 use native.Mathlib.Omega.{arith}
@@ -8,8 +8,8 @@ use borrow.Author.Tests.{not-true, not-false}
 use Rattle.wire.specs.Bytes.{wordAt}
 use Rattle.wire.proofs.Parts.{rest-part}
 use Rattle.protocol.specs.Layout.{checksumDiffers}
-use Rattle.header.proofs.checksum_differs.Statement.{statement}
-use Rattle.header.proofs.checksum_differs.Tie as tie
+use Rattle.flagged.proofs.checksum_differs.Statement.{statement}
+use Rattle.flagged.proofs.checksum_differs.Tie as tie
 
 returns : tie.Need-returns
 unfolding checksumDiffers

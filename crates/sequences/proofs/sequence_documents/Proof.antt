@@ -1,4 +1,4 @@
--- `sections::sequence_documents` meets its contract: it is what the run of its documents is.
+-- `sequences::sequence_documents` meets its contract: it is what the run of its documents is.
 -- Assumes nothing.
 use Prim.Native.Nat.{_+_, _-_}
 use mathlib.Core.Path.{_≡_}
@@ -6,8 +6,8 @@ use native.Mathlib.Omega.{arith}
 use borrow.Author.Needs.{needs}
 use Rattle.wire.specs.Outcome.{_>>=_}
 use Rattle.protocol.specs.Sections.{sequenceRun}
-use Rattle.sections.proofs.sequence_documents.Statement.{statement}
-use Rattle.sections.proofs.sequence_documents.Tie as tie
+use Rattle.sequences.proofs.sequence_documents.Statement.{statement}
+use Rattle.sequences.proofs.sequence_documents.Tie as tie
 
 returns : tie.Need-returns
 unfolding sequenceRun _>>=_
