@@ -23,7 +23,7 @@ use Rattle.protocol.specs.declared.Edition.{Edition}
 use Rattle.protocol.proofs.Accepted.{Differ}
 use Rattle.protocol.proofs.Differ.{front-part, front-identifiers}
 use Rattle.message.specs.Append.{sequenceBytes}
-use Rattle.naming.proofs.Texts.{among-append, among-last}
+use Rattle.element_names.proofs.Texts.{among-append, among-last}
 use Rattle.sections.proofs.Gather.{body-stays, sequences-more}
 use Rattle.documents.proofs.Turns.{run-turns}
 use Rattle.extending.proofs.Size.{sizeOf, bytes-length}

@@ -10,11 +10,11 @@ use lib.ListN.{length, getD, take, drop, length-take, drop-of-length-le}
 use lib.Seq.{take-take}
 use Rattle.wire.specs.Outcome.{ok, refused}
 use Rattle.protocol.specs.Names.{Name, sameText, among, distinct, identifier, texts}
-use Rattle.naming.specs.Answers.{slotOf, marked, marking}
+use Rattle.element_names.specs.Answers.{slotOf, marked, marking}
 use Rattle.protocol.specs.View.{noSequence}
 use Rattle.protocol.specs.declared.Sequence.{Sequence}
-use Rattle.naming.proofs.Texts.{among-cons, among-append, front-next, map-take, map-drop}
-use Rattle.naming.proofs.Distinct.{Met, met-unmarked, met-next, met-again, met-all}
+use Rattle.element_names.proofs.Texts.{among-cons, among-append, front-next, map-take, map-drop}
+use Rattle.element_names.proofs.Distinct.{Met, met-unmarked, met-next, met-again, met-all}
 
 -- the identifiers of the first k sequences of a table
 abbrev pub firstIdentifiers : List ℕ → List Sequence → ℕ → List Name

@@ -16,10 +16,10 @@ use Rattle.protocol.specs.Names.{among, distinct, elementNames, part, bodyNames
 use Rattle.protocol.specs.View.{padded}
 use Rattle.protocol.specs.Read.{distinctNames}
 use Rattle.protocol.specs.Answers.{Shows, Filled}
-use Rattle.naming.specs.Answers.{namesOf}
+use Rattle.element_names.specs.Answers.{namesOf}
 use Rattle.protocol.specs.declared.Sequence.{Sequence}
-use Rattle.naming.proofs.Texts.{among-append}
-use Rattle.naming.proofs.Elements.{names-turns, names-of}
+use Rattle.element_names.proofs.Texts.{among-append}
+use Rattle.element_names.proofs.Elements.{names-turns, names-of}
 use Rattle.naming.proofs.Identifiers.{firstIdentifiers}
 
 module _ {qs : List Section} {start size : ℕ} {table : List Sequence} {number : ℕ} (s : Shows qs start size table number) (xs : List ℕ) where

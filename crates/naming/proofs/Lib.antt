@@ -1,6 +1,2 @@
-pub mod Marks
-pub mod Texts
-pub mod Distinct
-pub mod Elements
 pub mod Identifiers
 pub mod Kept

@@ -13,7 +13,7 @@ use Rattle.bson.specs.declared.Walk.{Walk}
 use Rattle.protocol.specs.Answers.{judged, Filled}
 use Rattle.protocol.specs.Names.{distinct, elementNames}
 use Rattle.protocol.specs.declared.Verdict.{Verdict}
-use Rattle.naming.proofs.Elements.{names-turns}
+use Rattle.element_names.proofs.Elements.{names-turns}
 use Rattle.documents.proofs.Fill.{document-filled}
 use Rattle.write_checks.specs.Answers.{examined}
 

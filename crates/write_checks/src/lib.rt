@@ -1,9 +1,9 @@
 // What a write decides before it stores anything. The body is read where it lies.
 use bson::Walk;
+use element_names::body_names;
 use flags::all_known;
 use flags::checksum_size;
 use header::LENGTH;
-use naming::names::body_names;
 use protocol::Edition;
 use protocol::Verdict;
 use protocol::refused;

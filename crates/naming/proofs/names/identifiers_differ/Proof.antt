@@ -6,8 +6,8 @@ use mathlib.Core.Path.{_≡_, sym, _∙_}
 use native.Mathlib.Omega.{arith}
 use lib.ListN.{length}
 use borrow.Author.Needs.{needs}
-use Rattle.naming.specs.Answers.{namesOf}
-use Rattle.naming.proofs.Distinct.{Met, met-none}
+use Rattle.element_names.specs.Answers.{namesOf}
+use Rattle.element_names.proofs.Distinct.{Met, met-none}
 use Rattle.naming.proofs.Identifiers.{firstIdentifiers, differ-all, differ-again, differ-unmarked, differ-new}
 use Rattle.naming.proofs.names.identifiers_differ.Statement.{statement}
 use Rattle.naming.proofs.names.identifiers_differ.Tie as tie

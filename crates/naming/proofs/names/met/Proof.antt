@@ -2,7 +2,7 @@
 -- Assumes nothing.
 use mathlib.Core.Path.{sym, _∙_}
 use borrow.Author.Needs.{needs}
-use Rattle.naming.proofs.Elements.{all-names}
+use Rattle.element_names.proofs.Elements.{all-names}
 use Rattle.naming.proofs.names.met.Statement.{statement}
 use Rattle.naming.proofs.names.met.Tie as tie
 

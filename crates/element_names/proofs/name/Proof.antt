@@ -1,13 +1,13 @@
--- `naming::names::name` meets its contract.
+-- `element_names::name` meets its contract.
 -- Assumes nothing.
 use mathlib.Core.Path.{sym}
 use lib.Seq.{length-take-le}
 use borrow.Author.Needs.{needs}
 use Rattle.wire.proofs.Bytes.{until-le}
 use Rattle.wire.proofs.Parts.{rest-part}
-use Rattle.naming.specs.Answers.{nameText}
-use Rattle.naming.proofs.names.name.Statement.{statement}
-use Rattle.naming.proofs.names.name.Tie as tie
+use Rattle.element_names.specs.Answers.{nameText}
+use Rattle.element_names.proofs.name.Statement.{statement}
+use Rattle.element_names.proofs.name.Tie as tie
 
 slice-aggregate-result : tie.Need-slice-aggregate-result
 slice-aggregate-result c = sym (length-take-le _ _ (rw (c .before .until-zero .ensures) (until-le _)))

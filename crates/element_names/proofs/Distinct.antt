@@ -13,11 +13,11 @@ use borrow.Author.Tests.{eqb-true, eqb-false, eq-eqb}
 use Rattle.wire.specs.Outcome.{ok, refused}
 use Rattle.wire.proofs.Outcome.{pass, stop}
 use Rattle.protocol.specs.Names.{Name, sameText, among, distinct, texts}
-use Rattle.naming.specs.Answers.{slotOf, marked, marking, Marks}
+use Rattle.element_names.specs.Answers.{slotOf, marked, marking, Marks}
 use Rattle.protocol.specs.declared.Verdict.{Verdict}
 use Rattle.protocol.specs.declared.Verdict.the-variants.{Accepted, Refused}
-use Rattle.naming.proofs.Marks.{holds-self, holds-more}
-use Rattle.naming.proofs.Texts.{not-both, same-text, among-cons, among-last, take-whole, drop-next, texts-next}
+use Rattle.element_names.proofs.Marks.{holds-self, holds-more}
+use Rattle.element_names.proofs.Texts.{not-both, same-text, among-cons, among-last, take-whole, drop-next, texts-next}
 
 -- a verdict is not both
 pub not-accepted {ℓ} : {A : Type ℓ} {v : Verdict} {number place : ℕ} → v ≡ Refused number place → v ≡ Accepted → A

@@ -1,12 +1,12 @@
--- `naming::names::bit` meets its contract.
+-- `element_names::bit` meets its contract.
 -- Assumes nothing.
 use Prim.Native.Nat.{_%_}
 use mathlib.Core.Path.{_∙_}
 use native.Mathlib.Omega.{arith}
 use lib.Pow.{shl-exact}
 use borrow.Author.Needs.{needs}
-use Rattle.naming.proofs.names.bit.Statement.{statement}
-use Rattle.naming.proofs.names.bit.Tie as tie
+use Rattle.element_names.proofs.bit.Statement.{statement}
+use Rattle.element_names.proofs.bit.Tie as tie
 
 returns : tie.Need-returns
 returns c = shl-exact 1 (c .args .slot % 64) 64 (omega arith) (omega arith) ∙ omega arith

@@ -1,4 +1,4 @@
--- `naming::names::same` meets its contract. The loop's invariant: what is left of both texts tells whether they are the same.
+-- `element_names::same` meets its contract. The loop's invariant: what is left of both texts tells whether they are the same.
 -- The measure is what is left of the first. Assumes nothing.
 use Prim.Native.Nat.{_-_, _≤_}
 use mathlib.Core.Path.{_≡_, refl, sym, _∙_}
@@ -6,9 +6,9 @@ use native.Mathlib.Omega.{arith}
 use lib.ListN.{length, drop}
 use borrow.Author.Needs.{needs}
 use Rattle.protocol.specs.Names.{sameText}
-use Rattle.naming.proofs.Texts.{same-more, same-other, same-end, same-longer}
-use Rattle.naming.proofs.names.same.Statement.{statement}
-use Rattle.naming.proofs.names.same.Tie as tie
+use Rattle.element_names.proofs.Texts.{same-more, same-other, same-end, same-longer}
+use Rattle.element_names.proofs.same.Statement.{statement}
+use Rattle.element_names.proofs.same.Tie as tie
 
 abbrev Inv-loop : tie.InvT-loop
 Inv-loop a b i₀ i = (i ≤ length a) × (sameText a b ≡ sameText (drop i a) (drop i b))

@@ -1,10 +1,10 @@
--- `naming::names::mark` meets its contract.
+-- `element_names::mark` meets its contract.
 -- Assumes nothing.
 use borrow.Author.Needs.{needs}
-use Rattle.naming.specs.Answers.{marked, marking}
-use Rattle.naming.proofs.Distinct.{slot-small}
-use Rattle.naming.proofs.names.mark.Statement.{statement}
-use Rattle.naming.proofs.names.mark.Tie as tie
+use Rattle.element_names.specs.Answers.{marked, marking}
+use Rattle.element_names.proofs.Distinct.{slot-small}
+use Rattle.element_names.proofs.mark.Statement.{statement}
+use Rattle.element_names.proofs.mark.Tie as tie
 
 element-copy-out-old : tie.Need-element-copy-out-old
 element-copy-out-old c = rw (c .before .slot .ensures) (slot-small _)

@@ -1,4 +1,4 @@
--- `naming::names::slot` meets its contract: a text under four bytes is its own end.
+-- `element_names::slot` meets its contract: a text under four bytes is its own end.
 -- Assumes nothing.
 use Prim.Native.Nat.{_-_}
 use mathlib.Core.Path.{_≡_}
@@ -6,9 +6,9 @@ use native.Mathlib.Omega.{arith}
 use lib.ListN.{length}
 use borrow.Author.Needs.{needs}
 use Rattle.wire.proofs.Parts.{rest-part}
-use Rattle.naming.specs.Answers.{slotOf}
-use Rattle.naming.proofs.names.slot.Statement.{statement}
-use Rattle.naming.proofs.names.slot.Tie as tie
+use Rattle.element_names.specs.Answers.{slotOf}
+use Rattle.element_names.proofs.slot.Statement.{statement}
+use Rattle.element_names.proofs.slot.Tie as tie
 
 returns : tie.Need-returns
 unfolding slotOf

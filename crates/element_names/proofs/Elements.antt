@@ -13,9 +13,9 @@ use Rattle.wire.specs.Outcome.{ok, refused}
 use Rattle.elements.specs.Element.{elementSize}
 use Rattle.protocol.specs.Names.{Name, sameText, among, distinct, elementNames, texts}
 use Rattle.protocol.specs.Answers.{Filled, none, more}
-use Rattle.naming.specs.Answers.{nameText, namesOf, slotOf, marked, marking, Marks}
-use Rattle.naming.proofs.Texts.{among-cons, take-cons, drop-next, texts-take}
-use Rattle.naming.proofs.Distinct.{marks-none, Met, met-none, met-unmarked, met-next, met-again, met-all, met-marks}
+use Rattle.element_names.specs.Answers.{nameText, namesOf, slotOf, marked, marking, Marks}
+use Rattle.element_names.proofs.Texts.{among-cons, take-cons, drop-next, texts-take}
+use Rattle.element_names.proofs.Distinct.{marks-none, Met, met-none, met-unmarked, met-next, met-again, met-all, met-marks}
 
 -- bytes that elements fill, from the second element on
 filled-next : {xs : List ℕ} → Filled xs → 0 < length xs → (0 < elementSize xs) × (elementSize xs ≤ length xs) × Filled (drop (elementSize xs) xs)

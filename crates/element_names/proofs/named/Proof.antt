@@ -1,4 +1,4 @@
--- `naming::names::named` meets its contract. The loop's invariant: the text is among the first k names if it is among the next `left` from here.
+-- `element_names::named` meets its contract. The loop's invariant: the text is among the first k names if it is among the next `left` from here.
 -- The measure is what is left of the bytes. Assumes nothing.
 use Prim.Native.Nat.{_-_}
 use mathlib.Core.Bool.{true, false}
@@ -9,10 +9,10 @@ use borrow.Author.Needs.{needs}
 use Rattle.elements.specs.Element.{elementSize}
 use Rattle.wire.proofs.Parts.{rest-part}
 use Rattle.protocol.specs.Names.{sameText}
-use Rattle.naming.specs.Answers.{nameText}
-use Rattle.naming.proofs.Elements.{Sought, reached-size, reached-next, sought-none, sought-end, sought-all, sought-found, sought-next}
-use Rattle.naming.proofs.names.named.Statement.{statement}
-use Rattle.naming.proofs.names.named.Tie as tie
+use Rattle.element_names.specs.Answers.{nameText}
+use Rattle.element_names.proofs.Elements.{Sought, reached-size, reached-next, sought-none, sought-end, sought-all, sought-found, sought-next}
+use Rattle.element_names.proofs.named.Statement.{statement}
+use Rattle.element_names.proofs.named.Tie as tie
 
 abbrev Inv-loop : tie.InvT-loop
 Inv-loop xs k text i₀ left₀ i left = Sought xs k text i left

@@ -1,4 +1,4 @@
--- `naming::names::body_names` meets its contract. The loop's invariant: the k elements before place i have names that differ, and their marks are made.
+-- `element_names::body_names` meets its contract. The loop's invariant: the k elements before place i have names that differ, and their marks are made.
 -- The measure is what is left of the bytes. Assumes nothing.
 use Prim.Native.Nat.{_+_, _-_, _<_}
 use mathlib.Core.Bool.{true, false}
@@ -10,11 +10,11 @@ use borrow.Author.Needs.{needs}
 use Rattle.elements.specs.Element.{elementSize}
 use Rattle.wire.proofs.Parts.{rest-part}
 use Rattle.protocol.specs.Names.{among}
-use Rattle.naming.specs.Answers.{nameText, namesOf}
-use Rattle.naming.proofs.Distinct.{not-accepted}
-use Rattle.naming.proofs.Elements.{Reached, reached-size, reached-next, Listed, listed-none, listed-unmarked, listed-again, listed-next, listed-all, listed-marks}
-use Rattle.naming.proofs.names.body_names.Statement.{statement}
-use Rattle.naming.proofs.names.body_names.Tie as tie
+use Rattle.element_names.specs.Answers.{nameText, namesOf}
+use Rattle.element_names.proofs.Distinct.{not-accepted}
+use Rattle.element_names.proofs.Elements.{Reached, reached-size, reached-next, Listed, listed-none, listed-unmarked, listed-again, listed-next, listed-all, listed-marks}
+use Rattle.element_names.proofs.body_names.Statement.{statement}
+use Rattle.element_names.proofs.body_names.Tie as tie
 
 abbrev Inv-loop : tie.InvT-loop
 Inv-loop xs at marks₀ k₀ i₀ marks k i = Listed at xs i k marks

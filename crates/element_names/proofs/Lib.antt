@@ -1,0 +1,4 @@
+pub mod Marks
+pub mod Texts
+pub mod Distinct
+pub mod Elements
