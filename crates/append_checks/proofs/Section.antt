@@ -16,7 +16,7 @@ use Rattle.wire.proofs.Outcome.{pass, passed, same-after, assoc}
 use Rattle.wire.proofs.Bytes.{not-under, until-stop, until-go, word-le32}
 use Rattle.wire.proofs.Walk.{walk-done, walk-step}
 use Rattle.protocol.specs.Flags.{knows}
-use Rattle.protocol.specs.Sections.{maxSequences, Section, sequence, bodyStart, bodySize, sequencesOf, Parts, Run, nextDocument, sequenceRun, sequenceSection, sectionOf, sectionAt}
+use Rattle.protocol.specs.Sections.{maxSequences, Section, sequence, bodyStart, bodySize, sequencesOf, Parts, Run, nextDocument, sequenceRun, sequenceNamed, sequenceSection, sectionOf, sectionAt}
 use Rattle.protocol.specs.Names.{Name, among, distinct, part, bodyNames, identifier, identifiers, texts}
 use Rattle.protocol.specs.Read.{distinctNames}
 use Rattle.protocol.specs.declared.Edition.{Edition}
@@ -80,7 +80,7 @@ module _ (name documents : List ℕ) where
   module _ (e : Edition) (at : ℕ) (p : Parts) (k : knows e 1 ≡ true) (room : length (sequencesOf (p .sections)) < maxSequences)
       (some : 0 < length name) (z : untilZero name ≡ length name) (small : size < 2 ^ 31) where
     section-checked : sectionAt e at bytes p ≡ sequenceRun (length name) size at bytes p
-    unfolding sectionAt sectionOf sequenceSection _>>=_ refuse
+    unfolding sectionAt sectionOf sequenceSection sequenceNamed _>>=_ refuse
     section-checked =
         rw (
           bytes-kind,

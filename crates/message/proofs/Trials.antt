@@ -14,7 +14,7 @@ use Rattle.elements.specs.Element.{maxElements, head, inside, element, sizeOf, 
 use Rattle.bson.specs.Document.{maxLevels, frame, documentAt}
 use Rattle.protocol.specs.Flags.{common, kept, allKnown, checksummed, knows}
 use Rattle.protocol.specs.Layout.{maxLength, checksumSize, sectionsEnd, sectionBytes, checksumDiffers}
-use Rattle.protocol.specs.Sections.{maxSequences, bodyStart, bodySize, sequencesOf, nextDocument, bodySection, sequenceRun, sequenceSection, sectionOf, sectionAt}
+use Rattle.protocol.specs.Sections.{maxSequences, bodyStart, bodySize, sequencesOf, nextDocument, bodySection, sequenceRun, sequenceNamed, sequenceSection, sectionOf, sectionAt}
 use Rattle.protocol.specs.Names.{sameText, among, distinct, elementNames, part, bodyNames, identifier, identifiers, texts}
 use Rattle.protocol.specs.View.{noSequence, padded, viewOf}
 use Rattle.protocol.specs.Read.{header, flagged, parts, distinctNames, content, read}
@@ -94,5 +94,5 @@ trials :
     ∷ refused 24 41
     ∷ refused 23 36
     ∷ []
-unfolding _>>=_ refuse walk word wordAt under signed bits32 untilZero oneOf sized cstring string binary boolean regex pointer codeWithScope table ruleIn maxLevels maxElements frame head inside element documentAt sizeOf elementSize common kept allKnown checksummed knows maxLength checksumSize sectionsEnd sectionBytes checksumDiffers maxSequences bodyStart bodySize sequencesOf nextDocument bodySection sequenceRun sequenceSection sectionOf sectionAt sameText among distinct elementNames part bodyNames identifier identifiers texts padded viewOf header flagged parts distinctNames content read le32 checksum message wholeLength forwarded forward sequenceBytes appended append
+unfolding _>>=_ refuse walk word wordAt under signed bits32 untilZero oneOf sized cstring string binary boolean regex pointer codeWithScope table ruleIn maxLevels maxElements frame head inside element documentAt sizeOf elementSize common kept allKnown checksummed knows maxLength checksumSize sectionsEnd sectionBytes checksumDiffers maxSequences bodyStart bodySize sequencesOf nextDocument bodySection sequenceRun sequenceNamed sequenceSection sectionOf sectionAt sameText among distinct elementNames part bodyNames identifier identifiers texts padded viewOf header flagged parts distinctNames content read le32 checksum message wholeLength forwarded forward sequenceBytes appended append
 trials = refl

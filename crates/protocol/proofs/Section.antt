@@ -19,7 +19,7 @@ use Rattle.bson.specs.Document.{documentAt, maxLevels}
 use Rattle.bson.proofs.Frame.{document-framed}
 use Rattle.bson.proofs.Steady.{document-steady}
 use Rattle.protocol.specs.Flags.{knows}
-use Rattle.protocol.specs.Sections.{maxSequences, Section, body, sequence, placeOf, kindOf, bodyStart, sequencesOf, Parts, nextDocument, bodySection, sequenceRun, sequenceSection, sectionOf, sectionAt}
+use Rattle.protocol.specs.Sections.{maxSequences, Section, body, sequence, placeOf, kindOf, bodyStart, sequencesOf, Parts, nextDocument, bodySection, sequenceRun, sequenceNamed, sequenceSection, sectionOf, sectionAt}
 use Rattle.protocol.specs.declared.Edition.{Edition}
 use Rattle.protocol.specs.declared.Sequence.{Sequence}
 
@@ -76,7 +76,7 @@ pub record SequenceRead (at : ℕ) (xs : List ℕ) (p : Parts) (one : Step Parts
   pub added : one .state .sections ≡ p .sections ++ (sequenceAt at xs documents ∷ [])
 
 sequence-read : (at : ℕ) (xs : List ℕ) (p : Parts) (one : Step Parts) → sequenceSection at xs p ≡ ok one → SequenceRead at xs p one
-unfolding sequenceSection sequenceRun
+unfolding sequenceSection sequenceNamed sequenceRun
 sequence-read at xs p one h =
     let c1 = passed _ _ _ _ h in
     let c2 = passed _ _ _ _ (c1 .1) in
@@ -99,7 +99,7 @@ sequence-read at xs p one h =
 
 -- it goes by its own bytes alone
 sequence-alike : (at : ℕ) (xs ys : List ℕ) (p : Parts) → 5 ≤ stated xs → nameLength xs < stated xs - 4 → Agree (1 + stated xs) xs ys → sequenceSection at ys p ≡ sequenceSection at xs p
-unfolding sequenceSection sequenceRun
+unfolding sequenceSection sequenceNamed sequenceRun
 sequence-alike at xs ys p l m a =
     let n = stated xs in
     let w : word (drop 1 ys) ≡ n = agree-word (agree-drop 1 a) (omega arith) in

@@ -83,6 +83,14 @@ sequenceRun n size at xs p = do
   let q : Sequence = record { name = at + 5; «name_length» = n; start = at + (n + 6); end = at + (1 + size); documents = run .documents }
   behind p (1 + size) (sequence at q) (run .elements)
 
+-- a sequence of a size that fits: its identifier, and then its documents
+unfoldable pub sequenceNamed : (size : ℕ) → Reader Parts
+sequenceNamed size at xs p = do
+  let n = untilZero (take (size - 4) (drop 5 xs))
+  _ ← refuse 13 (at + 5) (eqb n 0)
+  _ ← refuse 13 (at + 5) (leb (size - 4) n)
+  sequenceRun n size at xs p
+
 -- kind 1; xs begins with the kind byte
 unfoldable pub sequenceSection : Reader Parts
 sequenceSection at xs p = do
@@ -91,10 +99,7 @@ sequenceSection at xs p = do
   let size = word (drop 1 xs)
   _ ← refuse 12 (at + 1) (under 5 size)
   _ ← refuse 12 (at + 1) (ltb (length xs) (1 + size))
-  let n = untilZero (take (size - 4) (drop 5 xs))
-  _ ← refuse 13 (at + 5) (eqb n 0)
-  _ ← refuse 13 (at + 5) (leb (size - 4) n)
-  sequenceRun n size at xs p
+  sequenceNamed size at xs p
 
 -- a section of kind 0, or else of kind 1
 unfoldable pub sectionOf : ℕ → Reader Parts

@@ -4,11 +4,9 @@ use Prim.Native.Nat.{ℕ, _+_, _-_, _≤_}
 use mathlib.Core.List.{List}
 use mathlib.Core.Path.{_≡_}
 use lib.ListN.{take, drop}
-use lib.Dec.{leb, eqb}
-use Rattle.wire.specs.Outcome.{Outcome, refuse, refused, _>>=_}
-use Rattle.wire.specs.Bytes.{untilZero}
-use Rattle.wire.specs.Walk.{Step, Reader}
-use Rattle.protocol.specs.Sections.{body, sequence, bodyStart, sequencesOf, Parts, behind, sequenceRun}
+use Rattle.wire.specs.Outcome.{Outcome, refused}
+use Rattle.wire.specs.Walk.{Step}
+use Rattle.protocol.specs.Sections.{body, sequence, bodyStart, sequencesOf, Parts, behind}
 use Rattle.protocol.specs.Answers.{Filled}
 use Rattle.sequences.specs.declared.Part.{Part}
 
@@ -29,11 +27,3 @@ pub record Carries (p : Parts) (start number elements : ℕ) : Type 0 where
   pub start-is : bodyStart (p .sections) ≡ start
   pub number-is : lib.ListN.length (sequencesOf (p .sections)) ≡ number
   pub elements-is : p .elements ≡ elements
-
--- the last steps of `sequenceSection`, behind those that read the size
-unfoldable pub sequenceNamed : ℕ → Reader Parts
-sequenceNamed size at xs p = do
-  let n = untilZero (take (size - 4) (drop 5 xs))
-  _ ← refuse 13 (at + 5) (eqb n 0)
-  _ ← refuse 13 (at + 5) (leb (size - 4) n)
-  sequenceRun n size at xs p

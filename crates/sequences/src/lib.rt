@@ -8,8 +8,8 @@ use wire::word;
 ghost use mathlib.Core.Path.{_≡_};
 ghost use Prim.Native.Nat.{ℕ, _+_, _^_, _<_, _≤_};
 ghost use lib.ListN.{length};
-ghost use Rattle.protocol.specs.Sections.{Parts, sequenceRun, sequenceSection};
-ghost use Rattle.sequences.specs.Answers.{partOf, Reaches, Carries, sequenceNamed};
+ghost use Rattle.protocol.specs.Sections.{Parts, sequenceRun, sequenceNamed, sequenceSection};
+ghost use Rattle.sequences.specs.Answers.{partOf, Reaches, Carries};
 
 // The most sequences of a message.
 pub const SEQUENCES: usize = 16;

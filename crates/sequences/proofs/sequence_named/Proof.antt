@@ -9,7 +9,7 @@ use borrow.Author.Needs.{needs}
 use borrow.Author.Tests.{le-leb, lt-leb, eq-eqb, ne-eqb}
 use Rattle.wire.specs.Outcome.{refuse, _>>=_}
 use Rattle.wire.specs.Bytes.{untilZero}
-use Rattle.sequences.specs.Answers.{sequenceNamed}
+use Rattle.protocol.specs.Sections.{sequenceNamed}
 use Rattle.sequences.proofs.sequence_named.Statement.{statement}
 use Rattle.sequences.proofs.sequence_named.Tie as tie
 

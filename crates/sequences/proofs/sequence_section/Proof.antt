@@ -8,7 +8,6 @@ use Rattle.wire.specs.Outcome.{refuse, _>>=_}
 use Rattle.wire.proofs.Bytes.{under-false}
 use Rattle.wire.proofs.Parts.{rest-part}
 use Rattle.protocol.specs.Sections.{maxSequences, sequenceSection}
-use Rattle.sequences.specs.Answers.{sequenceNamed}
 use Rattle.sequences.proofs.sequence_section.Statement.{statement}
 use Rattle.sequences.proofs.sequence_section.Tie as tie
 
@@ -45,7 +44,7 @@ sequence-named-requires c κs =
     omega (arith, under-false 5 (p2 .before .word .result) (sym (p2 .under .ensures) ∙ c .before .if3 .left))
 
 returns-5 : tie.Need-returns-5
-unfolding sequenceSection sequenceNamed maxSequences _>>=_ refuse
+unfolding sequenceSection maxSequences _>>=_ refuse
 returns-5 c =
     let p2 = c .before .before in
     let p3 = p2 .before in
