@@ -1,126 +1,6 @@
 // Runs the published vectors of CRC-32C, those of RFC 3720, appendix B.4, among them, and writes each checksum.
-const ASCENDING: [u8; 32] = [
-    0x00,
-    0x01,
-    0x02,
-    0x03,
-    0x04,
-    0x05,
-    0x06,
-    0x07,
-    0x08,
-    0x09,
-    0x0A,
-    0x0B,
-    0x0C,
-    0x0D,
-    0x0E,
-    0x0F,
-    0x10,
-    0x11,
-    0x12,
-    0x13,
-    0x14,
-    0x15,
-    0x16,
-    0x17,
-    0x18,
-    0x19,
-    0x1A,
-    0x1B,
-    0x1C,
-    0x1D,
-    0x1E,
-    0x1F,
-];
 
-const DESCENDING: [u8; 32] = [
-    0x1F,
-    0x1E,
-    0x1D,
-    0x1C,
-    0x1B,
-    0x1A,
-    0x19,
-    0x18,
-    0x17,
-    0x16,
-    0x15,
-    0x14,
-    0x13,
-    0x12,
-    0x11,
-    0x10,
-    0x0F,
-    0x0E,
-    0x0D,
-    0x0C,
-    0x0B,
-    0x0A,
-    0x09,
-    0x08,
-    0x07,
-    0x06,
-    0x05,
-    0x04,
-    0x03,
-    0x02,
-    0x01,
-    0x00,
-];
-
-const READ_COMMAND: [u8; 48] = [
-    0x01,
-    0xC0,
-    0x00,
-    0x00,
-    0x00,
-    0x00,
-    0x00,
-    0x00,
-    0x00,
-    0x00,
-    0x00,
-    0x00,
-    0x00,
-    0x00,
-    0x00,
-    0x00,
-    0x14,
-    0x00,
-    0x00,
-    0x00,
-    0x00,
-    0x00,
-    0x04,
-    0x00,
-    0x00,
-    0x00,
-    0x00,
-    0x14,
-    0x00,
-    0x00,
-    0x00,
-    0x18,
-    0x28,
-    0x00,
-    0x00,
-    0x00,
-    0x00,
-    0x00,
-    0x00,
-    0x00,
-    0x02,
-    0x00,
-    0x00,
-    0x00,
-    0x00,
-    0x00,
-    0x00,
-    0x00,
-];
-
-// A name, a tab, the checksum in hexadecimal, and the end of the line.
+// A name, a tab, a checksum in hexadecimal, and the end of the line.
 fn line(name: &[u8], checksum: u32) {
     io::write_all(1, name);
     io::write_all(1, b"\t");
@@ -128,17 +8,38 @@ fn line(name: &[u8], checksum: u32) {
     io::write_all(1, b"\n");
 }
 
-fn main() {
-    line(b"nothing", crc32c::crc(b""));
-    line(b"123456789", crc32c::crc(b"123456789"));
-    line(b"32 bytes 00", crc32c::crc(&[0u8; 32]));
-    line(b"32 bytes FF", crc32c::crc(&[0xFFu8; 32]));
-    line(b"ascending", crc32c::crc(&ASCENDING));
-    line(b"descending", crc32c::crc(&DESCENDING));
-    line(b"iSCSI read command", crc32c::crc(&READ_COMMAND));
-    let first = crc32c::update(0xFFFF_FFFF, &READ_COMMAND[..19]);
+fn vector(name: &[u8], s: &[u8]) {
+    line(name, crc32c::crc(s));
+}
+
+// The checksum of some bytes, taken in two parts.
+fn in_two_parts(name: &[u8], first: &[u8], second: &[u8]) {
     line(
+        name,
+        !crc32c::update(crc32c::update(0xFFFF_FFFF, first), second),
+    );
+}
+
+fn main() {
+    vector(b"nothing", b"");
+    vector(b"123456789", b"123456789");
+    vector(b"32 bytes 00", &[0u8; 32]);
+    vector(b"32 bytes FF", &[0xFFu8; 32]);
+    vector(
+        b"ascending",
+        b"\x00\x01\x02\x03\x04\x05\x06\x07\x08\x09\x0A\x0B\x0C\x0D\x0E\x0F\x10\x11\x12\x13\x14\x15\x16\x17\x18\x19\x1A\x1B\x1C\x1D\x1E\x1F",
+    );
+    vector(
+        b"descending",
+        b"\x1F\x1E\x1D\x1C\x1B\x1A\x19\x18\x17\x16\x15\x14\x13\x12\x11\x10\x0F\x0E\x0D\x0C\x0B\x0A\x09\x08\x07\x06\x05\x04\x03\x02\x01\x00",
+    );
+    vector(
+        b"iSCSI read command",
+        b"\x01\xC0\x00\x00\x00\x00\x00\x00\x00\x00\x00\x00\x00\x00\x00\x00\x14\x00\x00\x00\x00\x00\x04\x00\x00\x00\x00\x14\x00\x00\x00\x18\x28\x00\x00\x00\x00\x00\x00\x00\x02\x00\x00\x00\x00\x00\x00\x00",
+    );
+    in_two_parts(
         b"the same in two parts",
-        !crc32c::update(first, &READ_COMMAND[19..]),
+        b"\x01\xC0\x00\x00\x00\x00\x00\x00\x00\x00\x00\x00\x00\x00\x00\x00\x14\x00\x00",
+        b"\x00\x00\x00\x04\x00\x00\x00\x00\x14\x00\x00\x00\x18\x28\x00\x00\x00\x00\x00\x00\x00\x02\x00\x00\x00\x00\x00\x00\x00",
     );
 }

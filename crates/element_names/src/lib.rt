@@ -1,7 +1,7 @@
 // Check 23: names of elements that must differ.
 use protocol::Verdict;
 use protocol::refused;
-use skipping::skip_element;
+use skipping::element_size;
 use wire::until_zero;
 use wire::word;
 ghost use mathlib.Core.List.{[]};
@@ -95,7 +95,7 @@ pub fn named(xs: &[u8], k: usize, text: &[u8]) -> bool
         if same(text, name(rest)) {
             return true;
         }
-        i += skip_element(rest);
+        i += element_size(rest);
         left -= 1;
     }
     false
@@ -118,7 +118,7 @@ pub fn body_names(xs: &[u8], at: usize, marks: &mut [u64; 32]) -> Verdict
             }
         }
         k += 1;
-        i += skip_element(rest);
+        i += element_size(rest);
     }
     Verdict::Accepted
 }

@@ -5,12 +5,11 @@ use values::kind_of;
 use values::unlisted;
 use values::value_of;
 use wire::until_zero;
-use wire::word;
 ghost use mathlib.Core.Path.{_≡_};
 ghost use Prim.Native.Nat.{ℕ, _+_, _^_, _<_, _≤_};
 ghost use lib.ListN.{length};
 ghost use Rattle.values.specs.Answers.{shape, Inside};
-ghost use Rattle.elements.specs.Element.{head, elementSize};
+ghost use Rattle.elements.specs.Element.{head};
 ghost use Rattle.elements.specs.Answers.{outline, begins, Lies};
 
 // The most elements of a message.
@@ -68,26 +67,4 @@ pub fn head(s: &[u8], at: usize, count: u32) -> Outline
         return Outline::Refused(17, at);
     };
     outline_of(start, at + start, value_of(kind, &s[start..]))
-}
-
-// How many bytes the element at the start of s takes, in a document that was read: a document in it is passed over by its length.
-pub fn element_size(s: &[u8]) -> usize
-    ensures { λ r. ⌜ r ≡ elementSize (now (s .entry)) ⌝ }
-{
-    if s.len() == 0 {
-        return 0;
-    }
-    match head(s, 0, 0) {
-        Outline::Plain { start, size } => start + size,
-        Outline::Embedded { start } => start + word(&s[start..]) as usize,
-        Outline::Scoped { start, from, size } => {
-            let rest = &s[start..];
-            if from + word(&rest[from..size]) as usize == size {
-                start + size
-            } else {
-                0
-            }
-        }
-        Outline::Refused(_, _) => 0,
-    }
 }

@@ -9,7 +9,7 @@ ghost use lib.ListN.{length};
 ghost use Rattle.elements.specs.Element.{elementSize};
 
 // How many bytes the element at the start of s takes, which was read: by the lengths that it states, and nothing is checked again.
-pub fn skip_element(s: &[u8]) -> usize
+pub fn element_size(s: &[u8]) -> usize
     ensures { λ r. ⌜ (0 < elementSize (now (s .entry)) → elementSize (now (s .entry)) ≤ length (now (s .entry)) → r ≡ elementSize (now (s .entry))) ⌝ }
 {
     if s.len() == 0 {

@@ -4,7 +4,10 @@ use opmsg::read;
 use protocol::Edition;
 use protocol::Reading;
 use protocol::Verdict;
+use protocol::View;
 use relay::forward;
+ghost use mathlib.Core.Path.{_≡_};
+ghost use lib.ListN.{length};
 
 fn house() -> Edition {
     Edition {
@@ -13,9 +16,26 @@ fn house() -> Edition {
     }
 }
 
-fn number(n: u64) {
+fn number(n: u32) {
     io::write_all(1, b"\t");
-    io::print_decimal(1, n);
+    io::print_decimal(1, n as u64);
+}
+
+fn refused(n: u32, place: usize) {
+    io::write_all(1, b"\trefused");
+    number(n);
+    io::write_all(1, b"\t");
+    io::print_decimal(1, place as u64);
+}
+
+fn accepted(v: View) {
+    io::write_all(1, b"\taccepted");
+    number(v.length);
+    number(v.flags);
+    number(v.body);
+    number(v.body_length);
+    number(v.sequence_count);
+    number(v.elements);
 }
 
 // A trial's name and its answer: numbers of the view, or `refused`, number and place.
@@ -23,22 +43,15 @@ fn line(name: &[u8], r: Reading) {
     io::write_all(1, name);
     let verdict = r.verdict;
     match verdict {
-        Verdict::Refused { number: n, place } => {
-            io::write_all(1, b"\trefused");
-            number(n as u64);
-            number(place as u64);
-        }
-        Verdict::Accepted => {
-            io::write_all(1, b"\taccepted");
-            number(r.view.length as u64);
-            number(r.view.flags as u64);
-            number(r.view.body as u64);
-            number(r.view.body_length as u64);
-            number(r.view.sequence_count as u64);
-            number(r.view.elements as u64);
-        }
+        Verdict::Refused { number, place } => refused(number, place),
+        Verdict::Accepted => accepted(r.view),
     }
     io::write_all(1, b"\n");
+}
+
+// A trial that reads a message.
+fn reads(name: &[u8], message: &[u8]) {
+    line(name, read(house(), message));
 }
 
 fn byte(b: u8) {
@@ -55,84 +68,68 @@ fn hex(s: &[u8]) {
     io::write_all(1, b"\n");
 }
 
-fn headers() {
-    line(
-        b"T1",
-        read(
-            house(),
-            b"\x24\x00\x00\x00\x07\x00\x00\x00\x00\x00\x00\x00\xDD\x07\x00\x00\x00\x00\x00\x00\x00\x0F\x00\x00\x00\x10ping\x00\x01\x00\x00\x00\x00",
-        ),
-    );
-    line(b"T2", read(house(), b""));
-    line(
+// A trial that reads a message as long as PING.
+fn whole(name: &[u8], message: &[u8; 36]) {
+    reads(name, message);
+}
+
+fn ping() -> [u8; 36]
+    ensures { λ r. ⌜ length r ≡ 36 ⌝ }
+{
+    *b"\x24\x00\x00\x00\x07\x00\x00\x00\x00\x00\x00\x00\xDD\x07\x00\x00\x00\x00\x00\x00\x00\x0F\x00\x00\x00\x10ping\x00\x01\x00\x00\x00\x00"
+}
+
+// A trial that reads PING with another byte at a place.
+fn changed(name: &[u8], at: usize, b: u8) {
+    let mut message = ping();
+    if at < 36 {
+        message[at] = b;
+    }
+    whole(name, &message);
+}
+
+fn lengths() {
+    let message = ping();
+    whole(b"T1", &message);
+    reads(b"T2", b"");
+    reads(
         b"T3",
-        read(
-            house(),
-            b"\xFF\xFF\xFF\xFF\x07\x00\x00\x00\x00\x00\x00\x00\xDD\x07\x00\x00\x00\x00\x00\x00\x00\x0F\x00\x00\x00\x10ping\x00\x01\x00\x00\x00\x00",
-        ),
+        b"\xFF\xFF\xFF\xFF\x07\x00\x00\x00\x00\x00\x00\x00\xDD\x07\x00\x00\x00\x00\x00\x00\x00\x0F\x00\x00\x00\x10ping\x00\x01\x00\x00\x00\x00",
     );
-    line(
+    reads(
         b"T4",
-        read(
-            house(),
-            b"\x24\x00\x00\x00\x07\x00\x00\x00\x00\x00\x00\x00\xDD\x07\x00\x00\x00\x00\x00\x00\x00\x0F\x00\x00\x00\x10ping\x00\x01\x00\x00\x00",
-        ),
-    );
-    line(
-        b"T5",
-        read(
-            house(),
-            b"\x24\x00\x00\x00\x07\x00\x00\x00\x00\x00\x00\x00\xD3\x07\x00\x00\x00\x00\x00\x00\x00\x0F\x00\x00\x00\x10ping\x00\x01\x00\x00\x00\x00",
-        ),
-    );
-    line(
-        b"T6",
-        read(
-            house(),
-            b"\x24\x00\x00\x00\x07\x00\x00\x00\x00\x00\x00\x00\xD4\x07\x00\x00\x00\x00\x00\x00\x00\x0F\x00\x00\x00\x10ping\x00\x01\x00\x00\x00\x00",
-        ),
-    );
-    line(
-        b"T7",
-        read(
-            house(),
-            b"\x24\x00\x00\x00\x07\x00\x00\x00\x00\x00\x00\x00\xDD\x07\x00\x00\x04\x00\x00\x00\x00\x0F\x00\x00\x00\x10ping\x00\x01\x00\x00\x00\x00",
-        ),
+        b"\x24\x00\x00\x00\x07\x00\x00\x00\x00\x00\x00\x00\xDD\x07\x00\x00\x00\x00\x00\x00\x00\x0F\x00\x00\x00\x10ping\x00\x01\x00\x00\x00",
     );
 }
 
+fn opcodes_and_flags() {
+    changed(b"T5", 12, 0xD3);
+    changed(b"T6", 12, 0xD4);
+    changed(b"T7", 16, 4);
+}
+
 fn forwarding() {
-    let m =
-        b"\x24\x00\x00\x00\x07\x00\x00\x00\x00\x00\x00\x00\xDD\x07\x00\x00\x00\x00\x02\x00\x00\x0F\x00\x00\x00\x10ping\x00\x01\x00\x00\x00\x00";
+    let mut message = ping();
+    message[18] = 2;
     let mut out = [0u8; 36];
-    line(b"T8", forward(house(), m, &mut out));
+    line(b"T8", forward(house(), &message, &mut out));
     hex(&out);
 }
 
 fn sections() {
-    line(
+    reads(
         b"T9",
-        read(
-            house(),
-            b"\x14\x00\x00\x00\x07\x00\x00\x00\x00\x00\x00\x00\xDD\x07\x00\x00\x00\x00\x00\x00",
-        ),
+        b"\x14\x00\x00\x00\x07\x00\x00\x00\x00\x00\x00\x00\xDD\x07\x00\x00\x00\x00\x00\x00",
     );
-    line(
-        b"T10",
-        read(
-            house(),
-            b"\x24\x00\x00\x00\x07\x00\x00\x00\x00\x00\x00\x00\xDD\x07\x00\x00\x00\x00\x00\x00\x02\x0F\x00\x00\x00\x10ping\x00\x01\x00\x00\x00\x00",
-        ),
-    );
+    changed(b"T10", 20, 2);
 }
 
 fn appending() {
-    let ping =
-        b"\x24\x00\x00\x00\x07\x00\x00\x00\x00\x00\x00\x00\xDD\x07\x00\x00\x00\x00\x00\x00\x00\x0F\x00\x00\x00\x10ping\x00\x01\x00\x00\x00\x00";
+    let message = ping();
     let mut out = [0u8; 48];
     line(
         b"T11",
-        append(house(), ping, b"d", b"\x05\0\0\0\0", &mut out),
+        append(house(), &message, b"d", b"\x05\0\0\0\0", &mut out),
     );
     hex(&out);
     let bodies = Edition {
@@ -140,23 +137,27 @@ fn appending() {
         sequences: false,
     };
     line(b"T12", read(bodies, &out));
-    line(b"T13", append(house(), ping, b"ping", b"", &mut out));
+}
+
+fn clashing() {
+    let message = ping();
+    let mut out = [0u8; 48];
+    line(b"T13", append(house(), &message, b"ping", b"", &mut out));
 }
 
 fn names() {
-    line(
+    reads(
         b"T14",
-        read(
-            house(),
-            b"\x2E\x00\x00\x00\x07\x00\x00\x00\x00\x00\x00\x00\xDD\x07\x00\x00\x00\x00\x00\x00\x00\x19\x00\x00\x00\x10ping\x00\x01\x00\x00\x00\x10ping\x00\x01\x00\x00\x00\x00",
-        ),
+        b"\x2E\x00\x00\x00\x07\x00\x00\x00\x00\x00\x00\x00\xDD\x07\x00\x00\x00\x00\x00\x00\x00\x19\x00\x00\x00\x10ping\x00\x01\x00\x00\x00\x10ping\x00\x01\x00\x00\x00\x00",
     );
 }
 
 fn main() {
-    headers();
+    lengths();
+    opcodes_and_flags();
     forwarding();
     sections();
     appending();
+    clashing();
     names();
 }

@@ -41,18 +41,18 @@ fresh c =
     (λ w. listed-unmarked _ _ (l .loop .i) _ (l .loop .inv) _ (rw (name-is m) at (sym (m .mark .ensures .0) ∙ w .left)))
     (c .if1 .came)
 
-size-is : (c : tie.After-skip-element Inv-loop μ-loop) →
+size-is : (c : tie.After-element-size Inv-loop μ-loop) →
     let l = c .before .before .before .before .before .before .before in
-    c .skip-element .result ≡ elementSize (drop (l .loop .i) (l .before .before .args .xs .now))
+    c .element-size .result ≡ elementSize (drop (l .loop .i) (l .before .before .args .xs .now))
 size-is c =
     let t = c .before .before .before .before .before .before in
     let l = t .before in
     let s = reached-size _ _ _ (l .loop .inv .reached) (t .loop-test .taken) in
-    (rw (rest-part (l .loop .i) (l .before .before .args .xs .now)) at (c .skip-element .ensures)) (s .0) (s .1)
+    (rw (rest-part (l .loop .i) (l .before .before .args .xs .now)) at (c .element-size .ensures)) (s .0) (s .1)
 
-next : (c : tie.After-skip-element Inv-loop μ-loop) →
+next : (c : tie.After-element-size Inv-loop μ-loop) →
     let l = c .before .before .before .before .before .before .before in
-    (0 < c .skip-element .result) × Reached (l .before .before .args .xs .now) (l .loop .i + c .skip-element .result) (l .loop .inv .turns - 1)
+    (0 < c .element-size .result) × Reached (l .before .before .args .xs .now) (l .loop .i + c .element-size .result) (l .loop .inv .turns - 1)
 next c =
     let t = c .before .before .before .before .before .before in
     reached-next _ _ _ (t .before .loop .inv .reached) (t .loop-test .taken) _ (size-is c)

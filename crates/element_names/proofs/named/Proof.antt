@@ -20,14 +20,14 @@ Inv-loop xs k text i₀ left₀ i left = Sought xs k text i left
 abbrev μ-loop : tie.MeasureT-loop
 μ-loop xs k text i₀ left₀ i left = length xs - i
 
-size-is : (c : tie.After-skip-element Inv-loop μ-loop) →
+size-is : (c : tie.After-element-size Inv-loop μ-loop) →
     let l = c .before .before .before .before .before .before .before in
-    c .skip-element .result ≡ elementSize (drop (l .loop .i) (l .before .before .before .args .xs .now))
+    c .element-size .result ≡ elementSize (drop (l .loop .i) (l .before .before .before .args .xs .now))
 size-is c =
     let t = c .before .before .before .before .before .before in
     let l = t .before in
     let s = reached-size _ _ _ (l .loop .inv .reached) (t .loop-test .taken) in
-    (rw (rest-part (l .loop .i) (l .before .before .before .args .xs .now)) at (c .skip-element .ensures)) (s .0) (s .1)
+    (rw (rest-part (l .loop .i) (l .before .before .before .args .xs .now)) at (c .element-size .ensures)) (s .0) (s .1)
 
 loop-holds : tie.Need-loop-holds Inv-loop μ-loop
 loop-holds c = sought-none _ _ _ (c .before .before .pre)

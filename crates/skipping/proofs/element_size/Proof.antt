@@ -1,4 +1,4 @@
--- `skipping::skip_element` meets its contract: where the element was read, each step passes over a part of it.
+-- `skipping::element_size` meets its contract: where the element was read, each step passes over a part of it.
 -- Assumes nothing.
 use Prim.Native.Nat.{ℕ, _+_, _-_}
 use native.Mathlib.Omega.{arith}
@@ -12,8 +12,8 @@ use Rattle.wire.proofs.Parts.{rest-part}
 use Rattle.values.specs.Value.{Rule}
 use Rattle.values.specs.Answers.{ruleOf, span}
 use Rattle.skipping.proofs.Span.{Passed, element-is}
-use Rattle.skipping.proofs.skip_element.Statement.{statement}
-use Rattle.skipping.proofs.skip_element.Tie as tie
+use Rattle.skipping.proofs.element_size.Statement.{statement}
+use Rattle.skipping.proofs.element_size.Tie as tie
 
 until-is : (c : tie.After-until-zero) →
     c .until-zero .result ≡ untilZero (drop 1 (c .before .before .before .before .args .s .now))
@@ -52,8 +52,8 @@ returns-5 c = λ h l.
     let p = element-is _ h in
     omega (arith, p .is, size-is (c .before) p, until-is (c .before .before .before .before .before .before .before .before .before))
 
-pub skip-element-spec : {M : Type 1} → statement M
-skip-element-spec =
+pub element-size-spec : {M : Type 1} → statement M
+element-size-spec =
     tie.close
     (tie.spec
     (λ c. search needs)
