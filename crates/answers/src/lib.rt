@@ -1,11 +1,11 @@
 // What a call answers.
 use flags::kept;
+use protocol::Content;
 use protocol::Edition;
 use protocol::Reading;
 use protocol::Verdict;
 use protocol::View;
-use sections::Content;
-use sections::no_sequence;
+use protocol::no_sequence;
 use wire::signed;
 use wire::word;
 ghost use mathlib.Core.Path.{_≡_};

@@ -9,7 +9,7 @@ use Rattle.protocol.specs.Sections.{maxSequences, Parts, nothing, sectionAt}
 use Rattle.protocol.specs.Names.{part}
 use Rattle.protocol.specs.declared.Edition.{Edition}
 use Rattle.protocol.specs.declared.Verdict.{Verdict}
-use Rattle.sections.specs.declared.Content.{Content}
+use Rattle.protocol.specs.declared.Content.{Content}
 use Rattle.protocol.specs.declared.Verdict.the-variants.{Accepted, Refused}
 use Rattle.protocol.specs.Answers.{Shows, Filled}
 

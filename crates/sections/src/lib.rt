@@ -1,8 +1,9 @@
 // Checks 10 to 21: the sections of a message, from left to right. A slice starts at the place `at` of the message, and ends below 2 ^ 31.
 use bson::Walk;
+use protocol::Content;
 use protocol::Edition;
-use protocol::Sequence;
 use protocol::Verdict;
+use protocol::no_sequence;
 use sequences::Part;
 use sequences::refused;
 use sequences::sequence_section;
@@ -10,19 +11,8 @@ ghost use mathlib.Core.Path.{_≡_};
 ghost use Prim.Native.Nat.{ℕ, _+_, _^_, _<_};
 ghost use lib.ListN.{length};
 ghost use Rattle.protocol.specs.Sections.{Parts, bodySection, sectionAt};
-ghost use Rattle.protocol.specs.View.{noSequence};
 ghost use Rattle.sequences.specs.Answers.{partOf, Reaches, Carries};
 ghost use Rattle.sections.specs.Answers.{Listed};
-
-// All sections of a message. Where they are refused, the numbers are zero.
-pub struct Content {
-    pub verdict: Verdict,
-    pub body: usize,
-    pub body_length: usize,
-    pub count: usize,
-    pub sequences: [Sequence; 16],
-    pub elements: u32,
-}
 
 // Kind 0; xs begins with the kind byte. `start` is that of a body passed before, or 0.
 fn body_section(xs: &[u8], at: usize, start: usize, elements: u32) -> Part
@@ -74,19 +64,6 @@ fn nothing(verdict: Verdict) -> Content
         count: 0,
         sequences,
         elements: 0,
-    }
-}
-
-// An entry of the table past the last sequence.
-pub fn no_sequence() -> Sequence
-    ensures { λ r. ⌜ r ≡ noSequence ⌝ }
-{
-    Sequence {
-        name: 0,
-        name_length: 0,
-        start: 0,
-        end: 0,
-        documents: 0,
     }
 }
 

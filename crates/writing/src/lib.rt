@@ -6,7 +6,7 @@ use protocol::Edition;
 use protocol::Reading;
 use protocol::Verdict;
 use protocol::View;
-use sections::no_sequence;
+use protocol::no_sequence;
 use write_checks::checks;
 use write_checks::examine;
 ghost use mathlib.Core.Path.{_≡_};
