@@ -4,7 +4,7 @@ mod checks;
 use checks::checks;
 use documents::Run;
 use flags::checksum_size;
-use naming::names::taken;
+use identifiers::taken;
 use protocol::Edition;
 use protocol::Verdict;
 use protocol::View;

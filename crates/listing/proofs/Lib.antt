@@ -1,4 +1,3 @@
-pub mod Front
 pub mod Next
 pub mod Settled
 pub mod Example

@@ -1,3 +1,2 @@
 pub mod Next
-pub mod Front
 pub mod Listing

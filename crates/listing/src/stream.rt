@@ -10,7 +10,6 @@ ghost use mathlib.Core.Path.{_≡_};
 ghost use lib.ListN.{length};
 ghost use Rattle.protocol.specs.Read.{read};
 ghost use Rattle.listing.specs.Next.{house, short, stepOf, next, Within};
-ghost use Rattle.listing.specs.Front.{toFront};
 
 // The bytes at hand are short of a header, or of the message whose length it says.
 fn short(s: &[u8]) -> bool
@@ -69,22 +68,4 @@ pub fn next(s: &[u8], ended: bool) -> Step
         return Step::End;
     }
     judge(s)
-}
-
-// Moves the bytes from a place to an end to the front, where there are such bytes; else nothing changes.
-pub fn to_front(s: &mut [u8], at: usize, end: usize)
-    ensures { λ _. ⌜ now (s .exit) ≡ toFront at end (now (s .entry)) ⌝ }
-{
-    if end < at {
-        return;
-    }
-    if s.len() < end {
-        return;
-    }
-    let n = end - at;
-    let mut i = 0;
-    while i < n {
-        s[i] = s[at + i];
-        i += 1;
-    }
 }

@@ -1,10 +1,10 @@
 // Forwarding a message.
 use answers::refusal;
+use forwarding::forwarded;
 use opmsg::read;
 use protocol::Edition;
 use protocol::Reading;
 use protocol::Verdict;
-use storing::forwarded;
 ghost use mathlib.Core.Path.{_≡_};
 ghost use lib.ListN.{length};
 ghost use Rattle.protocol.specs.View.{answer};

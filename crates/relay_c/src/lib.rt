@@ -1,4 +1,5 @@
 // The calls of the library for C and Rust: numbers and slices only. host/relay.h is their manual.
+use forwarding::forwarded;
 use interface::NUMBERS;
 use interface::answered;
 use interface::edition;
@@ -6,7 +7,6 @@ use interface::refusal;
 use interface::without_view;
 use numbers::show;
 use protocol::Verdict;
-use storing::forwarded;
 ghost use mathlib.Core.Path.{_≡_};
 ghost use lib.ListN.{length};
 ghost use Rattle.protocol.specs.Read.{read};

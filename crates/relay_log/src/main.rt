@@ -48,7 +48,7 @@ fn fill(buf: &mut [u8], at: usize, end: usize) -> usize
     requires { ⌜ (at ≤ end) × (end - at < length (now buf)) ⌝ }
     ensures { λ r. ⌜ r ≤ length (now (buf .entry)) ⌝ }
 {
-    listing::stream::to_front(buf, at, end);
+    buffer::to_front(buf, at, end);
     let held = end - at;
     let room = &mut buf[held..];
     let got = libc::read(STDIN_FILENO, room);

@@ -12,7 +12,7 @@ use Rattle.wire.specs.Walk.{Step}
 use Rattle.wire.proofs.Outcome.{ok-same, went, passed}
 use Rattle.wire.proofs.Walk.{step-size}
 use Rattle.values.specs.Value.{Value, plain, embedded, scoped, Rule, table, ruleIn}
-use Rattle.values.specs.Answers.{span}
+use Rattle.skipping.specs.Answers.{span}
 use Rattle.elements.specs.Element.{Head, head, inside, element, sizeOf, over, elementSize}
 
 record HeadIs (xs : List ℕ) (h : Head) : Type 0 where

@@ -1,12 +1,45 @@
 // Elements that were read, passed over.
+use values::Extent;
 use values::Found;
+use values::Kind;
 use values::kind_of;
-use values::skip;
+use values::regex;
 use wire::until_zero;
+use wire::word;
 ghost use mathlib.Core.Path.{_≡_};
-ghost use Prim.Native.Nat.{_<_, _≤_};
+ghost use Prim.Native.Nat.{ℕ, _<_, _≤_};
 ghost use lib.ListN.{length};
+ghost use Rattle.wire.specs.Outcome.{ok};
+ghost use Rattle.values.specs.Value.{Value};
+ghost use Rattle.values.specs.Answers.{extent, ruleOf};
 ghost use Rattle.elements.specs.Element.{elementSize};
+ghost use Rattle.skipping.specs.Answers.{span};
+
+// The bytes of something that keeps its rule.
+fn taken(e: Extent) -> usize
+    ensures { λ r. ⌜ ((v n : ℕ) → extent v e ≡ ok n → r ≡ n) ⌝ }
+{
+    match e {
+        Extent::Takes(n) => n,
+        Extent::Broken => 0,
+    }
+}
+
+// How many bytes a value of some kind takes, where it keeps its rule.
+fn skip(k: Kind, s: &[u8]) -> usize
+    ensures { λ r. ⌜ ((v : ℕ) (x : Value) → ruleOf k v (now (s .entry)) ≡ ok x → r ≡ span (now (s .entry)) x) ⌝ }
+{
+    match k {
+        Kind::Bytes(n) => n,
+        Kind::Boolean => 1,
+        Kind::String => 4 + word(s) as usize,
+        Kind::Binary => 5 + word(s) as usize,
+        Kind::Regex => taken(regex(s)),
+        Kind::Pointer => 16 + word(s) as usize,
+        Kind::Embedded => word(s) as usize,
+        Kind::Code => word(s) as usize,
+    }
+}
 
 // How many bytes the element at the start of s takes, which was read: by the lengths that it states, and nothing is checked again.
 pub fn element_size(s: &[u8]) -> usize

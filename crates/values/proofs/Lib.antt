@@ -1,4 +1,3 @@
 pub mod Types
 pub mod Value
 pub mod Rows
-pub mod Span

@@ -2,10 +2,8 @@
 -- Assumes nothing: these are definitions.
 use Prim.Native.Nat.{ℕ, _≤_}
 use mathlib.Core.Bool.{Bool, true, false}
-use mathlib.Core.List.{List}
 use mathlib.Core.Path.{_≡_}
 use Rattle.wire.specs.Outcome.{Outcome, ok, refused}
-use Rattle.wire.specs.Bytes.{word}
 use Rattle.values.specs.Value.{Value, plain, embedded, scoped, sized, boolean, string, binary, regex, pointer, codeWithScope, bytes, Rule, table, ruleIn}
 use Rattle.values.specs.declared.Extent.{Extent}
 use Rattle.values.specs.declared.Shape.{Shape}
@@ -53,9 +51,3 @@ listed at Found.Unlisted = refused 17 at
 abbrev pub Unlisted : (t : ℕ) → Bool → Type 0
 Unlisted t true = (at : ℕ) → ruleIn table at t ≡ refused 17 at
 Unlisted t false = (at : ℕ) → (rule : Rule) × (ruleIn table at t ≡ ok rule)
-
--- how many bytes a value takes at the start of xs, where a document is passed over by its length
-abbrev pub span : List ℕ → Value → ℕ
-span xs (plain size) = size
-span xs embedded = word xs
-span xs (scoped start size) = size

@@ -5,9 +5,8 @@ use wire::word;
 ghost use mathlib.Core.Path.{_≡_};
 ghost use Prim.Native.Nat.{ℕ, _<_};
 ghost use lib.ListN.{length};
-ghost use Rattle.wire.specs.Outcome.{ok};
-ghost use Rattle.values.specs.Value.{Value, sized, boolean, cstring, string, binary, regex, pointer, codeWithScope, bytes, table, ruleIn};
-ghost use Rattle.values.specs.Answers.{extent, Within, shape, Inside, ruleOf, listed, Unlisted, span};
+ghost use Rattle.values.specs.Value.{sized, boolean, cstring, string, binary, regex, pointer, codeWithScope, bytes, table, ruleIn};
+ghost use Rattle.values.specs.Answers.{extent, Within, shape, Inside, ruleOf, listed, Unlisted};
 
 // How many bytes something takes; or it breaks its rule.
 pub enum Extent {
@@ -173,7 +172,7 @@ fn binary(s: &[u8]) -> Extent
 }
 
 // Two zero-ended strings.
-fn regex(s: &[u8]) -> Extent
+pub fn regex(s: &[u8]) -> Extent
     ensures is { λ r. ⌜ ((v : ℕ) → extent v r ≡ regex v (now (s .entry))) ⌝ }
     ensures inside { λ r. ⌜ Within (length (now (s .entry))) r ⌝ }
 {
@@ -250,31 +249,5 @@ pub fn value_of(k: Kind, s: &[u8]) -> Shape
         Kind::Pointer => plain(pointer(s)),
         Kind::Embedded => Shape::Embedded,
         Kind::Code => code_with_scope(s),
-    }
-}
-
-// The bytes of something that keeps its rule.
-fn taken(e: Extent) -> usize
-    ensures { λ r. ⌜ ((v n : ℕ) → extent v e ≡ ok n → r ≡ n) ⌝ }
-{
-    match e {
-        Extent::Takes(n) => n,
-        Extent::Broken => 0,
-    }
-}
-
-// How many bytes a value of some kind takes, where it keeps its rule.
-pub fn skip(k: Kind, s: &[u8]) -> usize
-    ensures { λ r. ⌜ ((v : ℕ) (x : Value) → ruleOf k v (now (s .entry)) ≡ ok x → r ≡ span (now (s .entry)) x) ⌝ }
-{
-    match k {
-        Kind::Bytes(n) => n,
-        Kind::Boolean => 1,
-        Kind::String => 4 + word(s) as usize,
-        Kind::Binary => 5 + word(s) as usize,
-        Kind::Regex => taken(regex(s)),
-        Kind::Pointer => 16 + word(s) as usize,
-        Kind::Embedded => word(s) as usize,
-        Kind::Code => word(s) as usize,
     }
 }

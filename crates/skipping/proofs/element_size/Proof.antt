@@ -10,7 +10,8 @@ use Rattle.wire.proofs.Outcome.{not-ok, ok-same}
 use Rattle.wire.proofs.Bytes.{until-le}
 use Rattle.wire.proofs.Parts.{rest-part}
 use Rattle.values.specs.Value.{Rule}
-use Rattle.values.specs.Answers.{ruleOf, span}
+use Rattle.values.specs.Answers.{ruleOf}
+use Rattle.skipping.specs.Answers.{span}
 use Rattle.skipping.proofs.Span.{Passed, element-is}
 use Rattle.skipping.proofs.element_size.Statement.{statement}
 use Rattle.skipping.proofs.element_size.Tie as tie
