@@ -43,6 +43,12 @@ module _ (e : Edition) (s : List ℕ) (v : View) (h : read e s ≡ ok v) (size :
         → append e s name documents room ≡ refused number place
     documents-refuse c w = append-documents e s v h name documents room (rw end-of at c) (rw end-of at w)
 
+    pub documents-ready : {number elements : ℕ} → allowed e (v .length - size) (v .«sequence_count») name (v .length + (length name + 6 + length documents)) room ≡ ok tt
+        → walk nextDocument (length documents) (v .length - size + (length name + 6)) documents (record { documents = 0; elements = v .elements })
+        ≡ ok (record { documents = number; elements = elements })
+        → Ready e s name documents v (v .length - size) number elements room
+    documents-ready c w = record { ended = end-of; shown = h; passed = c; counted = w }
+
 module _ {e : Edition} {s name documents : List ℕ} {v : View} {end number elements room : ℕ} (k : Ready e s name documents v end number elements room) where
   abbrev h : read e s ≡ ok v
   h = k .shown

@@ -7,9 +7,8 @@ use Rattle.protocol.specs.Sections.{maxSequences}
 use Rattle.protocol.specs.Answers.{judged}
 use Rattle.protocol.proofs.Limits.{maxLength-small}
 use Rattle.documents.specs.Answers.{ran}
-use Rattle.append_checks.specs.Grown.{Ready}
 use Rattle.append_checks.proofs.Appending.{allows}
-use Rattle.append_checks.proofs.Answers.{checksum-within, end-of, checks-refuse, documents-refuse, ready-allowed, ready-low, ready-inside, ready-filled, ready-body, ready-taken, ready-grown}
+use Rattle.append_checks.proofs.Answers.{checksum-within, checks-refuse, documents-refuse, documents-ready, ready-allowed, ready-low, ready-inside, ready-filled, ready-body, ready-taken, ready-grown}
 use Rattle.append_checks.proofs.examine.Statement.{statement}
 use Rattle.append_checks.proofs.examine.Tie as tie
 
@@ -41,12 +40,7 @@ repeated-requires c κs =
     let p6 = p4 .before .before in
     let p8 = p6 .before .before in
     let p12 = p8 .before .before .before .before in
-    let k : Ready (p12 .args .e) (p12 .args .s .now) (p12 .args .identifier .now) (p12 .args .documents .now) (p12 .args .v) _ _ _ (p12 .args .room) = record {
-      ended = end-of _ _ _ (p12 .pre) _ (p8 .checksum-size .ensures);
-      shown = p12 .pre;
-      passed = sym (p6 .checks .ensures) ∙ ap judged (p4 .enum-told .given .1);
-      counted = sym (p3 .documents .ensures _ (omega arith)) ∙ ap ran (c .before .number .given .1);
-    } in
+    let k = documents-ready _ _ _ (p12 .pre) _ (p8 .checksum-size .ensures) (p12 .args .identifier .now) (p12 .args .documents .now) (p12 .args .room) (sym (p6 .checks .ensures) ∙ ap judged (p4 .enum-told .given .1)) (sym (p3 .documents .ensures _ (omega arith)) ∙ ap ran (c .before .number .given .1)) in
     (ready-low k, ready-inside k, omega (arith, ready-allowed k .few), ready-body k, ready-filled k)
 
 returns-2 : tie.Need-returns-2
@@ -57,12 +51,7 @@ returns-2 c =
     let p8 = p6 .before .before in
     let p10 = p8 .before .before in
     let p14 = p10 .before .before .before .before in
-    let k : Ready (p14 .args .e) (p14 .args .s .now) (p14 .args .identifier .now) (p14 .args .documents .now) (p14 .args .v) _ _ _ (p14 .args .room) = record {
-      ended = end-of _ _ _ (p14 .pre) _ (p10 .checksum-size .ensures);
-      shown = p14 .pre;
-      passed = sym (p8 .checks .ensures) ∙ ap judged (p6 .enum-told .given .1);
-      counted = sym (p5 .documents .ensures _ (omega arith)) ∙ ap ran (p3 .number .given .1);
-    } in
+    let k = documents-ready _ _ _ (p14 .pre) _ (p10 .checksum-size .ensures) (p14 .args .identifier .now) (p14 .args .documents .now) (p14 .args .room) (sym (p8 .checks .ensures) ∙ ap judged (p6 .enum-told .given .1)) (sym (p5 .documents .ensures _ (omega arith)) ∙ ap ran (p3 .number .given .1)) in
     ready-taken k (c .before .repeated .result) (c .before .repeated .ensures) (c .if1 .taken)
 
 returns-3 : tie.Need-returns-3
@@ -73,12 +62,7 @@ returns-3 c =
     let p8 = p6 .before .before in
     let p10 = p8 .before .before in
     let p14 = p10 .before .before .before .before in
-    let k : Ready (p14 .args .e) (p14 .args .s .now) (p14 .args .identifier .now) (p14 .args .documents .now) (p14 .args .v) _ _ _ (p14 .args .room) = record {
-      ended = end-of _ _ _ (p14 .pre) _ (p10 .checksum-size .ensures);
-      shown = p14 .pre;
-      passed = sym (p8 .checks .ensures) ∙ ap judged (p6 .enum-told .given .1);
-      counted = sym (p5 .documents .ensures _ (omega arith)) ∙ ap ran (p3 .number .given .1);
-    } in
+    let k = documents-ready _ _ _ (p14 .pre) _ (p10 .checksum-size .ensures) (p14 .args .identifier .now) (p14 .args .documents .now) (p14 .args .room) (sym (p8 .checks .ensures) ∙ ap judged (p6 .enum-told .given .1)) (sym (p5 .documents .ensures _ (omega arith)) ∙ ap ran (p3 .number .given .1)) in
     (k, ready-grown k (c .before .repeated .result) (c .before .repeated .ensures) (c .if1 .left))
 
 returns-4 : tie.Need-returns-4
