@@ -1,5 +1,6 @@
 -- `append_checks::examine` meets its contract: the checks behind reading, the documents, and then the names.
 -- Assumes nothing.
+use Prim.Native.Nat.{_-_}
 use mathlib.Core.Path.{sym, ap, _∙_}
 use native.Mathlib.Omega.{arith}
 use borrow.Author.Needs.{needs}
@@ -7,6 +8,7 @@ use Rattle.protocol.specs.Sections.{maxSequences}
 use Rattle.protocol.specs.Answers.{judged}
 use Rattle.protocol.proofs.Limits.{maxLength-small}
 use Rattle.documents.specs.Answers.{ran}
+use Rattle.append_checks.specs.Grown.{Ready}
 use Rattle.append_checks.proofs.Appending.{allows}
 use Rattle.append_checks.proofs.Answers.{checksum-within, checks-refuse, documents-refuse, documents-ready, ready-allowed, ready-low, ready-inside, ready-filled, ready-body, ready-taken, ready-grown}
 use Rattle.append_checks.proofs.examine.Statement.{statement}
@@ -32,37 +34,32 @@ documents-requires c κs =
     let a = allows _ _ _ _ _ _ (sym (c .before .before .checks .ensures) ∙ ap judged (c .enum-told .given .1)) in
     omega (arith, a .limit, maxLength-small)
 
+-- the checks are passed and the documents are counted: only names are left to check
+ready : (q : tie.After-number) →
+    let d = q .before .before in
+    let m = d .before .before .before .before .before in
+    let a = m .before .before .before .before in
+    Ready (a .args .e) (a .args .s .now) (a .args .identifier .now) (a .args .documents .now) (a .args .v) (a .args .v .length - m .checksum-size .result) (q .number .given .0 .0) (q .number .given .0 .1 .0) (a .args .room)
+ready q =
+    let d = q .before .before in
+    let t = d .before in
+    let k = t .before .before in
+    let m = k .before .before in
+    let a = m .before .before .before .before in
+    documents-ready _ _ _ (a .pre) _ (m .checksum-size .ensures) (a .args .identifier .now) (a .args .documents .now) (a .args .room) (sym (k .checks .ensures) ∙ ap judged (t .enum-told .given .1)) (sym (d .documents .ensures _ (omega arith)) ∙ ap ran (q .number .given .1))
+
 repeated-requires : tie.Need-repeated-requires
 unfolding maxSequences
 repeated-requires c κs =
-    let p3 = c .before .before .before in
-    let p4 = p3 .before in
-    let p6 = p4 .before .before in
-    let p8 = p6 .before .before in
-    let p12 = p8 .before .before .before .before in
-    let k = documents-ready _ _ _ (p12 .pre) _ (p8 .checksum-size .ensures) (p12 .args .identifier .now) (p12 .args .documents .now) (p12 .args .room) (sym (p6 .checks .ensures) ∙ ap judged (p4 .enum-told .given .1)) (sym (p3 .documents .ensures _ (omega arith)) ∙ ap ran (c .before .number .given .1)) in
+    let k = ready (c .before) in
     (ready-low k, ready-inside k, omega (arith, ready-allowed k .few), ready-body k, ready-filled k)
 
 returns-2 : tie.Need-returns-2
-returns-2 c =
-    let p3 = c .before .before .before in
-    let p5 = p3 .before .before in
-    let p6 = p5 .before in
-    let p8 = p6 .before .before in
-    let p10 = p8 .before .before in
-    let p14 = p10 .before .before .before .before in
-    let k = documents-ready _ _ _ (p14 .pre) _ (p10 .checksum-size .ensures) (p14 .args .identifier .now) (p14 .args .documents .now) (p14 .args .room) (sym (p8 .checks .ensures) ∙ ap judged (p6 .enum-told .given .1)) (sym (p5 .documents .ensures _ (omega arith)) ∙ ap ran (p3 .number .given .1)) in
-    ready-taken k (c .before .repeated .result) (c .before .repeated .ensures) (c .if1 .taken)
+returns-2 c = ready-taken (ready (c .before .before .before)) (c .before .repeated .result) (c .before .repeated .ensures) (c .if1 .taken)
 
 returns-3 : tie.Need-returns-3
 returns-3 c =
-    let p3 = c .before .before .before in
-    let p5 = p3 .before .before in
-    let p6 = p5 .before in
-    let p8 = p6 .before .before in
-    let p10 = p8 .before .before in
-    let p14 = p10 .before .before .before .before in
-    let k = documents-ready _ _ _ (p14 .pre) _ (p10 .checksum-size .ensures) (p14 .args .identifier .now) (p14 .args .documents .now) (p14 .args .room) (sym (p8 .checks .ensures) ∙ ap judged (p6 .enum-told .given .1)) (sym (p5 .documents .ensures _ (omega arith)) ∙ ap ran (p3 .number .given .1)) in
+    let k = ready (c .before .before .before) in
     (k, ready-grown k (c .before .repeated .result) (c .before .repeated .ensures) (c .if1 .left))
 
 returns-4 : tie.Need-returns-4
