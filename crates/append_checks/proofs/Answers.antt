@@ -30,7 +30,7 @@ checksum-within e s v h = omega (arith, checksum-small (v .flags), view-length e
 
 -- a message that is read; `size` bytes are its checksum's
 module _ (e : Edition) (s : List ℕ) (v : View) (h : read e s ≡ ok v) (size : ℕ) (is : size ≡ checksumSize (v .flags)) where
-  pub end-of : v .length - size ≡ sectionsEnd s
+  end-of : v .length - size ≡ sectionsEnd s
   end-of = rw is (end-is e s v h)
 
   module _ (name documents : List ℕ) (room : ℕ) where

@@ -1,26 +1,18 @@
 -- What a view shows with one section more: its body, and its table, where the next sequence is stored behind the others.
 -- Assumes nothing.
-use Prim.Native.Nat.{ℕ, suc, _-_, _<_, _≤_}
+use Prim.Native.Nat.{suc, _-_, _<_}
 use mathlib.Core.Path.{_≡_, refl, sym, ap, _∙_}
 use mathlib.Core.List.{List, [], _∷_, _++_, append-assoc}
 use native.Mathlib.Omega.{arith}
-use lib.ListN.{length, getD, take, set, replicate, length-append, length-replicate, List·getD-append}
+use lib.ListN.{length, take, set, replicate, length-append}
 use lib.Seq.{take-at, set-append-seam}
 use Rattle.protocol.specs.Sections.{maxSequences, Section, body, sequence, bodyStart, bodySize, sequencesOf}
 use Rattle.protocol.specs.View.{noSequence, padded}
 use Rattle.protocol.specs.declared.Sequence.{Sequence}
 
-pub padded-length : (qs : List Sequence) → length qs ≤ maxSequences → length (padded qs) ≡ maxSequences
-unfolding padded
-padded-length qs l = rw (length-append, length-replicate) (omega arith)
-
 pub padded-front : (qs : List Sequence) → take (length qs) (padded qs) ≡ qs
 unfolding padded
 padded-front qs = take-at qs _ (length qs) refl
-
-pub padded-entry : (qs : List Sequence) (i : ℕ) → i < length qs → getD (padded qs) i noSequence ≡ getD qs i noSequence
-unfolding padded
-padded-entry qs i l = List·getD-append qs _ noSequence i l
 
 -- one sequence more
 pub padded-set : (qs : List Sequence) (q : Sequence) → length qs < maxSequences → set (padded qs) (length qs) q ≡ padded (qs ++ (q ∷ []))

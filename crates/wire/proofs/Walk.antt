@@ -11,7 +11,7 @@ use lib.Seq.{drop-append-le, length-take-le}
 use borrow.Author.Tests.{eq-eqb, ne-eqb}
 use Rattle.wire.specs.Outcome.{ok, refused, _>>=_}
 use Rattle.wire.specs.Walk.{Step, step, Reader, walk}
-use Rattle.wire.proofs.Outcome.{ok-same, went, bound, same-after, go-on, halt}
+use Rattle.wire.proofs.Outcome.{ok-same, bound, same-after, go-on, halt}
 use Rattle.wire.proofs.Parts.{next-part}
 use Rattle.wire.proofs.Agree.{Agree, agree-append, agree-take}
 
@@ -51,16 +51,6 @@ module _ {S : Type 0} (reader : Reader S) where
       let some = a at (x ∷ xs) s one e in
       walk-turns a m n (at + one .size) (drop (one .size) (x ∷ xs)) (one .state) (rw length-drop (omega arith)) (rw length-drop (omega arith)))
       ∙ sym (walk-step n at (x ∷ xs) s (omega arith))
-
-  -- what holds of the state before each step and after it holds at the end
-  pub walk-keeps : (P : S → Type 0) → ((at : ℕ) (xs : List ℕ) (s : S) (one : Step S) → P s → reader at xs s ≡ ok one → P (one .state))
-      → (turns at : ℕ) (xs : List ℕ) (s : S) {t : S} → P s → walk reader turns at xs s ≡ ok t → P t
-  unfolding walk
-  walk-keeps P keep zero at xs s p h = rw (← ok-same h) p
-  walk-keeps P keep (suc turns) at [] s p h = rw (← ok-same h) p
-  walk-keeps P keep (suc turns) at (x ∷ xs) s p h =
-      let w = went _ _ (sym (walk-step turns at (x ∷ xs) s (omega arith)) ∙ h) in
-      walk-keeps P keep turns _ _ _ (keep at (x ∷ xs) s (w .0) p (w .1)) (w .2)
 
   -- in code: from place i of xs to `end`. At the end there is nothing to read; before it the walk goes on behind the next thing, or stops in it
   module _ (at end i : ℕ) (xs : List ℕ) (s : S) where
