@@ -1,37 +1,83 @@
 /*
  * relay.h - reads, forwards, writes and extends MongoDB OP_MSG messages.
  *
- * Link with librelay_c.a.
+ * For C99 or C++11, and later ones. Link with librelay_c.a, which is for
+ * x86-64 Linux and needs the C library alone.
  *
- * A message is at most 49,152 bytes long. It holds one body and at most 16
- * document sequences. Only opcode 2013 (OP_MSG) is read; all others are
- * refused, OP_COMPRESSED too. BSON is checked for structure at all levels: at
- * most 32 levels and at most 4,096 elements in a message.
+ *   relay_read       checks a message and shows where its parts are
+ *   relay_forward    checks a message and copies it, as a relay passes it on
+ *   relay_write      makes a message from a body
+ *   relay_append     copies a message with one more document sequence
  *
- * Editions. Each call takes the edition of the relay that makes it: `bits`,
- * the set of flag bits it knows, and `sequences`, which is 0 if the relay does
- * not know kind 1, the document sequence, and anything else if it does. The
- * house edition is RELAY_HOUSE_BITS with sequences 1.
+ *     struct relay_view view;
+ *     uint64_t result = relay_read(RELAY_HOUSE_BITS, 1, bytes, length,
+ *                                  RELAY_VIEW(&view));
+ *     if (result == RELAY_ACCEPTED)
+ *         use(bytes + view.body_start, view.body_length);
+ *     else
+ *         fprintf(stderr, "refusal %d at %lu: %s\n", (int)relay_number(result),
+ *                 (unsigned long)relay_place(result),
+ *                 relay_words(relay_number(result)));
+ *
+ * examples/relay.c is a whole program.
+ *
+ * Messages. All numbers in a message are little-endian.
+ *
+ *   at 0     messageLength, 4 bytes, signed: counts the whole message
+ *   at 4     requestID, 4 bytes, signed
+ *   at 8     responseTo, 4 bytes, signed
+ *   at 12    opCode, 4 bytes, signed: 2013 is OP_MSG, all others are refused
+ *   at 16    the flag word, 4 bytes, unsigned
+ *   at 20    the sections; each starts with a byte that is its kind
+ *              kind 0, the body: one BSON document
+ *              kind 1, a document sequence: its size, 4 bytes, signed, which
+ *              counts from its own first byte; its identifier, ended by a zero
+ *              byte; BSON documents back to back, or none
+ *   at the end, where bit 0 of the flag word is set: the checksum, 4 bytes,
+ *            CRC-32C of all bytes before it
+ *
+ * A message has one body, at any place among its sections, and at most 16
+ * sequences. The names of the body's own elements, its top-level names, are all
+ * different. An identifier is not empty, and differs from those names and from
+ * the other identifiers.
+ *
+ * BSON 1.1 is checked for structure: types, lengths and zero bytes, at all
+ * levels. A section's document stands at level 1; a document, array or scope
+ * inside an element stands one level deeper than that element's document.
+ * Not checked: UTF-8, the keys of arrays, what decimals hold, subtypes of
+ * binary data, options of regular expressions.
+ *
+ * Editions. What a relay knows of the protocol is its edition. Each call takes
+ * one as two arguments: `bits`, the set of flag bits that are known, and
+ * `sequences`, which is 0 if kind 1 is not known and anything else if it is.
+ * A message with an unknown flag bit of 0 to 15 set, or with a section of an
+ * unknown kind, is refused. An unknown flag bit of 16 to 31 is neither shown
+ * nor passed on. The edition to take, unless there is a reason for another, is
+ * RELAY_HOUSE_BITS and 1: every flag bit that OP_MSG has a use for, and
+ * sequences. It is called the house edition.
  *
  * Results. Each call answers 0 (RELAY_ACCEPTED) or a refusal: its number times
  * 2^32 plus its place. relay_number() and relay_place() take the two apart,
  * relay_words() says what a number means. A place is counted in bytes from the
  * start of the message that is read, or of the message that the call would
- * have written.
+ * have written. Every call ends with an answer, whatever the bytes are.
+ *
+ * Streams. RELAY_BUFFER_UNDER_16 and RELAY_BUFFER_SHORT say that the buffer
+ * does not hold a whole message yet: receive more bytes and call again. After
+ * an accepted message the next one starts view.length bytes further.
  *
  * Lent memory. Every buffer belongs to the caller before, during and after the
- * call; the library keeps no pointer, allocates nothing for the caller and has
- * no state of its own, so calls from several threads are independent as long
- * as their buffers are. Each pointer must be valid for its length; a pointer
- * with length 0 may be NULL. `output` and `view` must not overlap each other or
- * any input.
+ * call; the library keeps no pointer, allocates nothing and has no state of its
+ * own, so calls from several threads are independent as long as their buffers
+ * are. Each pointer must be valid for its length; a pointer with length 0 may
+ * be NULL. `output` and `view` must not overlap each other or any input; inputs
+ * may overlap. `view` must be aligned for int64_t, as a struct relay_view is;
+ * bytes may stand anywhere.
  *
  *   On a refusal neither the output nor the view changes.
  *   On acceptance every byte of the written message and each of the 88 numbers
  *   of the view is decided by the call alone, whatever was there before; bytes
  *   of the output past the message and numbers of the view past the 88th stay.
- *
- * Every call ends with an answer, whatever the bytes are.
  */
 #ifndef RELAY_H
 #define RELAY_H
@@ -43,8 +89,20 @@
 extern "C" {
 #endif
 
+#define RELAY_VERSION "0.1.0"
+
+/*
+ * The limits are the library's own: MongoDB takes longer and deeper messages.
+ */
+
 /* The longest message in bytes; an output of this length always has room. */
-#define RELAY_MAX_MESSAGE 49152
+#define RELAY_MAX_LENGTH 49152
+
+/* The most elements in a message, at all levels of all its documents. */
+#define RELAY_MAX_ELEMENTS 4096
+
+/* The deepest level at which a document may stand. */
+#define RELAY_MAX_LEVELS 32
 
 /* The most document sequences in a message. */
 #define RELAY_MAX_SEQUENCES 16
@@ -52,7 +110,7 @@ extern "C" {
 /* How many numbers a view has. */
 #define RELAY_VIEW_NUMBERS 88
 
-/* The flag bits that are in use. */
+/* The flag bits that OP_MSG has a use for. */
 #define RELAY_CHECKSUM_PRESENT ((uint32_t)1 << 0)
 #define RELAY_MORE_TO_COME ((uint32_t)1 << 1)
 #define RELAY_EXHAUST_ALLOWED ((uint32_t)1 << 16)
@@ -75,14 +133,30 @@ struct relay_sequence {
 
 /*
  * What an accepted message holds: the 88 numbers that a call writes, in order.
+ * The message is the one that relay_read has read, or the one that another call
+ * has written to its output. Its sequences stand in the order of the message,
+ * and each document starts with its length:
+ *
+ *     for (int64_t i = 0; i < view.sequence_count; i++) {
+ *         const struct relay_sequence *sequence = &view.sequences[i];
+ *         int64_t at = sequence->documents_start;
+ *         while (at < sequence->documents_end) {
+ *             const uint8_t *document = message + at;
+ *             uint32_t length =
+ *                 (uint32_t)document[0] | (uint32_t)document[1] << 8 |
+ *                 (uint32_t)document[2] << 16 | (uint32_t)document[3] << 24;
+ *             use(document, length);
+ *             at += length;
+ *         }
+ *     }
  */
 struct relay_view {
     int64_t length;         /* messageLength */
     int64_t request_id;     /* signed: -1 is -1 */
     int64_t response_to;
     int64_t flags;          /* the flag word, kept to the known bits */
-    int64_t body_start;
-    int64_t body_length;
+    int64_t body_start;     /* the place of the body's BSON document */
+    int64_t body_length;    /* that document's length */
     int64_t sequence_count; /* how many entries of `sequences` are used */
     int64_t elements;       /* elements at all levels of all documents */
     struct relay_sequence sequences[RELAY_MAX_SEQUENCES]; /* unused ones are 0 */
@@ -93,75 +167,46 @@ typedef char relay_view_is_88_numbers
     [sizeof(struct relay_view) == RELAY_VIEW_NUMBERS * sizeof(int64_t) ? 1 : -1];
 
 /*
- * Passes a struct relay_view as the last two arguments of a call:
- *
- *     struct relay_view view;
- *     uint64_t result = relay_read(RELAY_HOUSE_BITS, 1, bytes, length,
- *                                  RELAY_VIEW(&view));
+ * Passes a pointer to a struct relay_view as the last two arguments of a call,
+ * `view` and `view_len`. Who keeps views in another form lends 88 or more
+ * numbers of type int64_t.
  */
 #define RELAY_VIEW(pointer) ((int64_t *)(void *)(pointer)), RELAY_VIEW_NUMBERS
 
 /*
- * The refusals. Reading makes its checks in the order 1 to 9, then 10, 11, 14,
- * 12, 13, 20, 15, 16, 21, 17, 18, 19 from left to right through the sections,
- * then 22, 23, 24. The place stands behind each.
+ * The refusals, each with its place. When each is given stands in
+ * relay_words(). Reading makes its checks in the order 1 to 9, with the second
+ * case of 7 after 8; then, from left to right through the sections, 10, 11, 14,
+ * 12, 13, 20, 15, 16, 21, 17, 18, 19 of each thing as it is reached; then 22,
+ * 23, 24.
  */
 enum relay_refusal {
     RELAY_ACCEPTED = 0,
-    /* buffer under 16 bytes: 0 */
-    RELAY_BUFFER_UNDER_16 = 1,
-    /* messageLength under 16 or over 49,152: 0 */
-    RELAY_LENGTH_OUT_OF_RANGE = 2,
-    /* buffer shorter than messageLength: 0 */
-    RELAY_BUFFER_SHORT = 3,
-    /* opCode 1, 2001, 2002, 2004 to 2007: 12 */
-    RELAY_OLD_OPCODE = 4,
-    /* opCode 2012: 12 */
-    RELAY_COMPRESSED_OPCODE = 5,
-    /* any other opCode but 2013, also 2003: 12 */
-    RELAY_OTHER_OPCODE = 6,
-    /* messageLength under 20; or, after 8, under 24 with bit 0 set: 16 */
-    RELAY_LENGTH_TOO_SMALL = 7,
-    /* an unknown bit of 0 to 15 is set, or in relay_write any unknown bit: 16 */
-    RELAY_UNKNOWN_FLAG = 8,
-    /* checksum differs: messageLength - 4 */
-    RELAY_CHECKSUM_DIFFERS = 9,
-    /* section kind not known: kind byte */
-    RELAY_UNKNOWN_KIND = 10,
-    /* second body: its kind byte */
-    RELAY_SECOND_BODY = 11,
-    /* under 4 bytes before the end, size under 5, or size passing the end:
-     * size field */
-    RELAY_SECTION_SIZE = 12,
-    /* identifier empty or without its zero inside the section: its first byte */
-    RELAY_BAD_IDENTIFIER = 13,
-    /* seventeenth sequence: its kind byte */
-    RELAY_SEVENTEENTH_SEQUENCE = 14,
-    /* under 4 bytes left, length under 5, or past the enclosing end: the
-     * document's first byte */
-    RELAY_DOCUMENT_LENGTH = 15,
-    /* last byte of a document not zero: that byte */
-    RELAY_DOCUMENT_LAST_BYTE = 16,
-    /* type not in the table: type byte */
-    RELAY_UNKNOWN_TYPE = 17,
-    /* name without a zero before the document's last byte: its first byte */
-    RELAY_NAME_WITHOUT_ZERO = 18,
-    /* value breaks its row or passes the document's last byte: value's first
-     * byte */
-    RELAY_BAD_VALUE = 19,
-    /* document at level 33: its first byte */
-    RELAY_TOO_DEEP = 20,
-    /* element number 4,097: type byte */
-    RELAY_TOO_MANY_ELEMENTS = 21,
-    /* no body: the end of the sections */
-    RELAY_NO_BODY = 22,
-    /* a top-level body name equals an earlier one; the first such: that name */
-    RELAY_NAME_TWICE = 23,
-    /* an identifier equals a top-level body name or an earlier identifier; the
-     * first such: that identifier */
-    RELAY_IDENTIFIER_CLASH = 24,
-    /* the lent output, or the view, is too short: 0 */
-    RELAY_OUTPUT_SHORT = 25
+    RELAY_BUFFER_UNDER_16 = 1,       /* 0 */
+    RELAY_LENGTH_OUT_OF_RANGE = 2,   /* 0 */
+    RELAY_BUFFER_SHORT = 3,          /* 0 */
+    RELAY_OLD_OPCODE = 4,            /* 12 */
+    RELAY_COMPRESSED_OPCODE = 5,     /* 12 */
+    RELAY_OTHER_OPCODE = 6,          /* 12 */
+    RELAY_LENGTH_TOO_SMALL = 7,      /* 16 */
+    RELAY_UNKNOWN_FLAG = 8,          /* 16 */
+    RELAY_CHECKSUM_DIFFERS = 9,      /* messageLength - 4 */
+    RELAY_UNKNOWN_KIND = 10,         /* the kind byte */
+    RELAY_SECOND_BODY = 11,          /* its kind byte */
+    RELAY_SECTION_SIZE = 12,         /* the size's first byte */
+    RELAY_BAD_IDENTIFIER = 13,       /* the identifier's first byte */
+    RELAY_SEVENTEENTH_SEQUENCE = 14, /* its kind byte */
+    RELAY_DOCUMENT_LENGTH = 15,      /* the document's first byte */
+    RELAY_DOCUMENT_LAST_BYTE = 16,   /* that byte */
+    RELAY_UNKNOWN_TYPE = 17,         /* the type byte */
+    RELAY_NAME_WITHOUT_ZERO = 18,    /* the name's first byte */
+    RELAY_BAD_VALUE = 19,            /* the value's first byte */
+    RELAY_TOO_DEEP = 20,             /* the document's first byte */
+    RELAY_TOO_MANY_ELEMENTS = 21,    /* the element's type byte */
+    RELAY_NO_BODY = 22,              /* the end of the sections */
+    RELAY_NAME_TWICE = 23,           /* the later name's first byte */
+    RELAY_IDENTIFIER_CLASH = 24,     /* the identifier's first byte */
+    RELAY_OUTPUT_SHORT = 25          /* 0 */
 };
 
 /* The refusal's number in a result; RELAY_ACCEPTED if there is none. */
@@ -176,62 +221,69 @@ static inline uint32_t relay_place(uint64_t result)
     return (uint32_t)result;
 }
 
-/* When a number is given, in English. */
+/*
+ * When a number is given, in English. The enclosing end of a document is the
+ * end of its sequence, for a body the end of the sections, and for a document
+ * inside another the last byte of that other one; for a scope it is the end of
+ * its value. Types have the rules of BSON 1.1.
+ */
 static inline const char *relay_words(enum relay_refusal number)
 {
     switch (number) {
     case RELAY_ACCEPTED:
         return "accepted";
     case RELAY_BUFFER_UNDER_16:
-        return "buffer under 16 bytes";
+        return "buffer is under 16 bytes";
     case RELAY_LENGTH_OUT_OF_RANGE:
-        return "messageLength under 16 or over 49,152";
+        return "messageLength is under 16 or over 49,152";
     case RELAY_BUFFER_SHORT:
-        return "buffer shorter than messageLength";
+        return "buffer is shorter than messageLength";
     case RELAY_OLD_OPCODE:
-        return "opCode 1, 2001, 2002, 2004 to 2007";
+        return "message of an older protocol (opCode 1, 2001, 2002, 2004 to 2007)";
     case RELAY_COMPRESSED_OPCODE:
-        return "opCode 2012";
+        return "compressed message (opCode 2012)";
     case RELAY_OTHER_OPCODE:
-        return "any other opCode but 2013, also 2003";
+        return "opCode is none that is known";
     case RELAY_LENGTH_TOO_SMALL:
-        return "messageLength under 20, or under 24 with bit 0 set";
+        return "messageLength is under 20, or under 24 with bit 0 of the flag word set";
     case RELAY_UNKNOWN_FLAG:
-        return "an unknown bit of 0 to 15 is set, or in write any unknown bit";
+        return "flag word has an unknown bit set (of bits 0 to 15; in write, of all)";
     case RELAY_CHECKSUM_DIFFERS:
-        return "checksum differs";
+        return "message's checksum differs from that of its bytes";
     case RELAY_UNKNOWN_KIND:
-        return "section kind not known";
+        return "section's kind is not known";
     case RELAY_SECOND_BODY:
-        return "second body";
+        return "message has a second body";
     case RELAY_SECTION_SIZE:
-        return "under 4 bytes before the end, size under 5, or size passing the end";
+        return "sequence's size is cut off, under 5, or passes the end of the sections";
     case RELAY_BAD_IDENTIFIER:
-        return "identifier empty or without its zero inside the section";
+        return "sequence's identifier is empty, or its zero byte is not inside its section "
+               "(in append: or it holds one)";
     case RELAY_SEVENTEENTH_SEQUENCE:
-        return "seventeenth sequence";
+        return "message has a seventeenth sequence";
     case RELAY_DOCUMENT_LENGTH:
-        return "under 4 bytes left, length under 5, or past the enclosing end";
+        return "document's length is cut off, under 5, or passes the enclosing end "
+               "(in write: or is not the lent body's)";
     case RELAY_DOCUMENT_LAST_BYTE:
-        return "last byte not zero";
+        return "document's last byte is not zero";
     case RELAY_UNKNOWN_TYPE:
-        return "type not in the table";
+        return "element's type is none of BSON 1.1";
     case RELAY_NAME_WITHOUT_ZERO:
-        return "name without a zero before the document's last byte";
+        return "element's name has no zero byte before the document's last byte";
     case RELAY_BAD_VALUE:
-        return "value breaks its row or passes the document's last byte";
+        return "element's value breaks its type's rule or passes the document's last byte";
     case RELAY_TOO_DEEP:
-        return "document at level 33";
+        return "document stands at level 33";
     case RELAY_TOO_MANY_ELEMENTS:
-        return "element number 4,097";
+        return "element is number 4,097 of its message";
     case RELAY_NO_BODY:
-        return "no body";
+        return "message has no body";
     case RELAY_NAME_TWICE:
-        return "a top-level body name equals an earlier one";
+        return "body has a top-level name that equals an earlier one";
     case RELAY_IDENTIFIER_CLASH:
-        return "an identifier equals a top-level body name or an earlier identifier";
+        return "sequence's identifier is a top-level name of the body or an earlier identifier";
     case RELAY_OUTPUT_SHORT:
-        return "the lent output is too short";
+        return "output is too short for the message, or view for its 88 numbers";
     }
     return "no such refusal";
 }
@@ -240,9 +292,9 @@ static inline const char *relay_words(enum relay_refusal number)
  * Reads one message from the start of `message` and fills the view. Bytes past
  * messageLength are not looked at.
  *
- *   bits, sequences     the edition
- *   message             message_len bytes that start with a message
- *   view                view_len numbers, at least 88; see RELAY_VIEW
+ *   bits, sequences    the edition
+ *   message            message_len bytes that start with a message
+ *   view               view_len numbers, at least 88; see RELAY_VIEW
  *
  * Refusals: 1 to 24 by the message; then 25 at 0 if the view is shorter than
  * 88 numbers.
@@ -254,7 +306,8 @@ uint64_t relay_read(uint32_t bits, uint8_t sequences,
 /*
  * Reads a message and copies it to the output: its first messageLength bytes,
  * with the flag word kept to the known bits and, where bit 0 is set, the
- * checksum worked out anew. The view is the message's.
+ * checksum worked out anew. The view is the message's, with the same places in
+ * the output.
  *
  * Refusals: those of relay_read; then 25 at 0 if the output is shorter than
  * messageLength, or the view shorter than 88 numbers.
@@ -287,17 +340,18 @@ uint64_t relay_write(uint32_t bits, uint8_t sequences,
 
 /*
  * Writes a message to the output as relay_forward does, with one more document
- * sequence at the end E of its sections, the new length and, where bit 0 is
- * set, a new checksum. The message grows by 6 bytes, the identifier and the
- * documents. The view is that of the new message.
+ * sequence behind its sections, the new length and, where bit 0 is set, a new
+ * checksum. The message grows by 6 bytes, the identifier and the documents. The
+ * view is that of the new message.
  *
  *   identifier    identifier_len bytes, without a zero byte at the end
  *   documents     documents_len bytes: BSON documents back to back, or none
  *
- * Refusals, in this order: those of relay_read on the message; 10 at E if
- * kind 1 is not known; 14 at E if it has sixteen sequences; 13 at E + 5 if the
- * identifier is empty or holds a zero; 2 at 0 if the new length is over
- * 49,152; 25 at 0 if the output is shorter than the new length; those of
+ * Refusals, in this order, where E is the end of the message's sections,
+ * messageLength or 4 less with a checksum: those of relay_read on the message;
+ * 10 at E if kind 1 is not known; 14 at E if it has sixteen sequences; 13 at
+ * E + 5 if the identifier is empty or holds a zero; 2 at 0 if the new length is
+ * over 49,152; 25 at 0 if the output is shorter than the new length; those of
  * relay_read on the new message; 25 at 0 if the view is shorter than 88
  * numbers.
  */

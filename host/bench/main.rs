@@ -22,7 +22,7 @@ mod mix;
 mod plain;
 
 use mix::Item;
-use relay::{ffi, Edition, MAX_MESSAGE, VIEW_NUMBERS};
+use relay::{ffi, Edition, MAX_LENGTH, VIEW_NUMBERS};
 use std::hint::black_box;
 use std::time::{Duration, Instant};
 
@@ -75,8 +75,8 @@ fn check(item: &Item) {
     assert_eq!(view.elements, other.elements);
     assert_eq!(view.sequences().len(), other.sequence_count);
 
-    let mut one = vec![0; MAX_MESSAGE];
-    let mut two = vec![0; MAX_MESSAGE];
+    let mut one = vec![0; MAX_LENGTH];
+    let mut two = vec![0; MAX_LENGTH];
     relay::forward(&HOUSE, &item.message, &mut one).expect("accepted");
     plain::forward(PLAIN_HOUSE, &item.message, &mut two).expect("accepted");
     assert!(one == two);
@@ -221,7 +221,7 @@ fn print_row(name: &str, length: usize, call: &str, [library, safe, plain]: [f64
 }
 
 fn outputs() -> [Vec<u8>; 3] {
-    [(); 3].map(|()| vec![0; MAX_MESSAGE])
+    [(); 3].map(|()| vec![0; MAX_LENGTH])
 }
 
 // ------------------------------------------------------------------ timing

@@ -2,9 +2,9 @@
 //! one would write it for speed without unsafe code: the measure to hold the
 //! library against. `tests/plain.rs` holds it against the independent reader.
 
-pub const MAX_MESSAGE: usize = 49_152;
+pub const MAX_LENGTH: usize = 49_152;
 pub const MAX_SEQUENCES: usize = 16;
-const MAX_LEVEL: usize = 32;
+const MAX_LEVELS: usize = 32;
 const MAX_ELEMENTS: usize = 4_096;
 
 /// A refusal's number and place.
@@ -125,7 +125,7 @@ fn read_parts(edition: Edition, buffer: &[u8]) -> Result<(View, Reader<'_>), Ref
         return Err((1, 0));
     }
     let stated = i32_at(buffer, 0);
-    if !(16..=MAX_MESSAGE as i32).contains(&stated) {
+    if !(16..=MAX_LENGTH as i32).contains(&stated) {
         return Err((2, 0));
     }
     let Some(message) = buffer.get(..stated as usize) else {
@@ -269,7 +269,7 @@ impl<'a> Reader<'a> {
         level: usize,
         keep_names: bool,
     ) -> Result<usize, Refused> {
-        if level > MAX_LEVEL {
+        if level > MAX_LEVELS {
             return Err((20, start));
         }
         if limit - start < 4 {
@@ -436,7 +436,7 @@ pub fn write(
     }
     let end = 21 + body.len();
     let length = end + if flags & 1 != 0 { 4 } else { 0 };
-    if length > MAX_MESSAGE {
+    if length > MAX_LENGTH {
         return Err((2, 0));
     }
     let Some(output) = output.get_mut(..length) else {
@@ -494,7 +494,7 @@ pub fn append(
     }
     let size = 5 + identifier.len() + documents.len();
     let length = view.length + 1 + size;
-    if length > MAX_MESSAGE {
+    if length > MAX_LENGTH {
         return Err((2, 0));
     }
     let Some(output) = output.get_mut(..length) else {

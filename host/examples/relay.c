@@ -1,9 +1,10 @@
 /*
  * Reads the PING message, forwards it with a flag bit that the relay does not
- * know, appends a document sequence to it and shows a refusal.
+ * know, appends a document sequence to it, writes a message from its body and
+ * shows two refusals.
  *
  *     gcc -std=c99 -Wall -Wextra -Werror -I.. relay.c \
- *         ../../target/staticlib/librelay_c.a -lpthread -ldl -lm -o relay
+ *         ../../target/staticlib/librelay_c.a -o relay
  */
 #include "relay.h"
 
@@ -16,6 +17,13 @@ static const uint8_t PING[36] = {
     0xDD, 0x07, 0x00, 0x00, 0x00, 0x00, 0x00, 0x00, 0x00, 0x0F, 0x00, 0x00,
     0x00, 0x10, 0x70, 0x69, 0x6E, 0x67, 0x00, 0x01, 0x00, 0x00, 0x00, 0x00};
 
+/* The length that a document states in its first four bytes. */
+static uint32_t document_length(const uint8_t *document)
+{
+    return (uint32_t)document[0] | (uint32_t)document[1] << 8 |
+           (uint32_t)document[2] << 16 | (uint32_t)document[3] << 24;
+}
+
 static void print_view(const struct relay_view *view, const uint8_t *message)
 {
     printf("  length %" PRId64 ", request %" PRId64 ", response to %" PRId64
@@ -25,12 +33,16 @@ static void print_view(const struct relay_view *view, const uint8_t *message)
            view->body_start, view->body_length, view->elements);
     for (int64_t i = 0; i < view->sequence_count; i++) {
         const struct relay_sequence *sequence = &view->sequences[i];
-        printf("  sequence %.*s: documents %" PRId64 " from %" PRId64
-               " to %" PRId64 "\n",
+        int64_t at = sequence->documents_start;
+        printf("  sequence %.*s: documents %" PRId64 "\n",
                (int)sequence->identifier_length,
                (const char *)message + sequence->identifier_start,
-               sequence->documents, sequence->documents_start,
-               sequence->documents_end);
+               sequence->documents);
+        while (at < sequence->documents_end) {
+            uint32_t length = document_length(message + at);
+            printf("    at %" PRId64 ", length %" PRIu32 "\n", at, length);
+            at += length;
+        }
     }
 }
 
@@ -43,8 +55,10 @@ static void print_refusal(const char *what, uint64_t result)
 
 int main(void)
 {
-    static uint8_t output[RELAY_MAX_MESSAGE];
-    static const uint8_t empty_document[5] = {5, 0, 0, 0, 0};
+    static uint8_t output[RELAY_MAX_LENGTH];
+    static const uint8_t two_documents[16] = {
+        5, 0, 0, 0, 0, /* {} */
+        11, 0, 0, 0, 0x08, 'd', 'r', 'y', 0, 1, 0 /* {"dry": true} */};
     struct relay_view view;
     uint8_t message[sizeof PING];
     uint64_t result;
@@ -73,7 +87,7 @@ int main(void)
 
     result = relay_append(RELAY_HOUSE_BITS, 1, PING, sizeof PING,
                           (const uint8_t *)"d", 1,
-                          empty_document, sizeof empty_document,
+                          two_documents, sizeof two_documents,
                           output, sizeof output, RELAY_VIEW(&view));
     if (result != RELAY_ACCEPTED) {
         print_refusal("append", result);

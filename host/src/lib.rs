@@ -33,10 +33,23 @@ mod refusal;
 mod view;
 
 pub use refusal::Refusal;
-pub use view::{Sequence, View, MAX_SEQUENCES, VIEW_NUMBERS};
+pub use view::{Sequence, View, VIEW_NUMBERS};
 
-/// The longest message in bytes.
-pub const MAX_MESSAGE: usize = 49_152;
+/// The version of the crate and of `relay.h`.
+pub const VERSION: &str = env!("CARGO_PKG_VERSION");
+
+/// The longest message in bytes; an output of this length always has room.
+pub const MAX_LENGTH: usize = 49_152;
+
+/// The most elements in a message, at all levels of all its documents.
+pub const MAX_ELEMENTS: usize = 4_096;
+
+/// The deepest level at which a document may stand; that of a section's
+/// document is 1.
+pub const MAX_LEVELS: usize = 32;
+
+/// The most document sequences in a message.
+pub const MAX_SEQUENCES: usize = 16;
 
 /// The flag bits and section kinds that a relay knows.
 #[derive(Clone, Copy, Debug, PartialEq, Eq, Hash)]

@@ -15,7 +15,7 @@ macro_rules! refusals {
         /// let refusal = read(&Edition::HOUSE, b"").unwrap_err();
         /// assert_eq!(refusal, Refusal::BufferUnder16(0));
         /// assert_eq!(refusal.number(), 1);
-        /// assert_eq!(refusal.to_string(), "refusal 1 at 0: buffer under 16 bytes");
+        /// assert_eq!(refusal.to_string(), "refusal 1 at 0: buffer is under 16 bytes");
         /// ```
         #[derive(Clone, Copy, Debug, PartialEq, Eq, Hash)]
         pub enum Refusal {
@@ -60,31 +60,31 @@ macro_rules! refusals {
 }
 
 refusals! {
-    1 BufferUnder16 "buffer under 16 bytes",
-    2 LengthOutOfRange "messageLength under 16 or over 49,152",
-    3 BufferShort "buffer shorter than messageLength",
-    4 OldOpcode "opCode 1, 2001, 2002, 2004 to 2007",
-    5 CompressedOpcode "opCode 2012",
-    6 OtherOpcode "any other opCode but 2013, also 2003",
-    7 LengthTooSmall "messageLength under 20, or under 24 with bit 0 set",
-    8 UnknownFlag "an unknown bit of 0 to 15 is set, or in write any unknown bit",
-    9 ChecksumDiffers "checksum differs",
-    10 UnknownKind "section kind not known",
-    11 SecondBody "second body",
-    12 SectionSize "under 4 bytes before the end, size under 5, or size passing the end",
-    13 BadIdentifier "identifier empty or without its zero inside the section",
-    14 SeventeenthSequence "seventeenth sequence",
-    15 DocumentLength "under 4 bytes left, length under 5, or past the enclosing end",
-    16 DocumentLastByte "last byte not zero",
-    17 UnknownType "type not in the table",
-    18 NameWithoutZero "name without a zero before the document's last byte",
-    19 BadValue "value breaks its row or passes the document's last byte",
-    20 TooDeep "document at level 33",
-    21 TooManyElements "element number 4,097",
-    22 NoBody "no body",
-    23 NameTwice "a top-level body name equals an earlier one",
-    24 IdentifierClash "an identifier equals a top-level body name or an earlier identifier",
-    25 OutputShort "the lent output is too short",
+    1 BufferUnder16 "buffer is under 16 bytes",
+    2 LengthOutOfRange "messageLength is under 16 or over 49,152",
+    3 BufferShort "buffer is shorter than messageLength",
+    4 OldOpcode "message of an older protocol (opCode 1, 2001, 2002, 2004 to 2007)",
+    5 CompressedOpcode "compressed message (opCode 2012)",
+    6 OtherOpcode "opCode is none that is known",
+    7 LengthTooSmall "messageLength is under 20, or under 24 with bit 0 of the flag word set",
+    8 UnknownFlag "flag word has an unknown bit set (of bits 0 to 15; in write, of all)",
+    9 ChecksumDiffers "message's checksum differs from that of its bytes",
+    10 UnknownKind "section's kind is not known",
+    11 SecondBody "message has a second body",
+    12 SectionSize "sequence's size is cut off, under 5, or passes the end of the sections",
+    13 BadIdentifier "sequence's identifier is empty, or its zero byte is not inside its section (in append: or it holds one)",
+    14 SeventeenthSequence "message has a seventeenth sequence",
+    15 DocumentLength "document's length is cut off, under 5, or passes the enclosing end (in write: or is not the lent body's)",
+    16 DocumentLastByte "document's last byte is not zero",
+    17 UnknownType "element's type is none of BSON 1.1",
+    18 NameWithoutZero "element's name has no zero byte before the document's last byte",
+    19 BadValue "element's value breaks its type's rule or passes the document's last byte",
+    20 TooDeep "document stands at level 33",
+    21 TooManyElements "element is number 4,097 of its message",
+    22 NoBody "message has no body",
+    23 NameTwice "body has a top-level name that equals an earlier one",
+    24 IdentifierClash "sequence's identifier is a top-level name of the body or an earlier identifier",
+    25 OutputShort "output is too short for the message, or view for its 88 numbers",
 }
 
 impl fmt::Display for Refusal {
@@ -150,7 +150,7 @@ mod tests {
         let shown = Refusal::IdentifierClash(41).to_string();
         assert_eq!(
             shown,
-            "refusal 24 at 41: an identifier equals a top-level body name or an earlier identifier"
+            "refusal 24 at 41: sequence's identifier is a top-level name of the body or an earlier identifier"
         );
     }
 }

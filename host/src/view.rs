@@ -1,9 +1,7 @@
 //! What an accepted message holds.
 
+use crate::MAX_SEQUENCES;
 use std::ops::Range;
-
-/// The most sequences in a message.
-pub const MAX_SEQUENCES: usize = 16;
 
 /// How many numbers the library writes for a view.
 pub const VIEW_NUMBERS: usize = 8 + 5 * MAX_SEQUENCES;

@@ -1,7 +1,8 @@
-//! Compiles C programs against `relay.h` and the archive, runs them and
-//! compares what they print.
+//! Compiles C programs against `relay.h` and the archive, as C and as C++, runs
+//! them and compares what they print.
 
-use relay::{Edition, Refusal, MAX_MESSAGE, VIEW_NUMBERS};
+use relay::{Edition, Refusal, MAX_ELEMENTS, MAX_LENGTH, MAX_LEVELS, MAX_SEQUENCES};
+use relay::{VERSION, VIEW_NUMBERS};
 use std::fs;
 use std::path::{Path, PathBuf};
 use std::process::Command;
@@ -10,22 +11,27 @@ fn host() -> &'static Path {
     Path::new(env!("CARGO_MANIFEST_DIR"))
 }
 
+/// The compilers, each with the oldest standard that the header is for.
+const COMPILERS: [(&str, &str); 2] = [("gcc", "c99"), ("g++", "c++11")];
+
 /// Compiles a C file of the host folder; answers the program.
-fn compile(source: &str, name: &str) -> PathBuf {
+fn compile(compiler: &str, standard: &str, source: &str) -> PathBuf {
+    let name = format!("{}-{standard}", source.replace('/', "-"));
     let program = Path::new(env!("CARGO_TARGET_TMPDIR")).join(name);
-    let output = Command::new("gcc")
-        .args(["-std=c99", "-Wall", "-Wextra", "-Werror"])
+    let output = Command::new(compiler)
+        .arg(format!("-std={standard}"))
+        .args(["-pedantic", "-Wall", "-Wextra", "-Werror"])
         .arg("-I")
         .arg(host())
         .arg(host().join(source))
         .arg(env!("RELAY_ARCHIVE"))
-        .args(["-lpthread", "-ldl", "-lm", "-o"])
+        .arg("-o")
         .arg(&program)
         .output()
-        .expect("gcc runs");
+        .unwrap_or_else(|fault| panic!("{compiler} does not run: {fault}"));
     assert!(
         output.status.success(),
-        "{source}:\n{}",
+        "{compiler} {source}:\n{}",
         String::from_utf8_lossy(&output.stderr)
     );
     program
@@ -40,16 +46,21 @@ fn run(program: &Path) -> String {
 
 #[test]
 fn the_example_prints_what_it_should() {
-    let printed = run(&compile("examples/relay.c", "example"));
     let expected = fs::read_to_string(host().join("examples/relay.expected")).expect("the file");
-    assert_eq!(printed, expected);
+    for (compiler, standard) in COMPILERS {
+        let printed = run(&compile(compiler, standard, "examples/relay.c"));
+        assert_eq!(printed, expected, "{compiler}");
+    }
 }
 
 #[test]
 fn the_header_says_what_the_crate_says() {
-    let printed = run(&compile("tests/c/header.c", "header"));
     let mut expected = vec![
-        format!("max_message {MAX_MESSAGE}"),
+        format!("version {VERSION}"),
+        format!("max_length {MAX_LENGTH}"),
+        format!("max_elements {MAX_ELEMENTS}"),
+        format!("max_levels {MAX_LEVELS}"),
+        format!("max_sequences {MAX_SEQUENCES}"),
         format!("house_bits {}", Edition::HOUSE.bits),
         format!("view_numbers {VIEW_NUMBERS}"),
     ];
@@ -81,6 +92,9 @@ fn the_header_says_what_the_crate_says() {
         expected.push(format!("{number} at 49151: {}", refusal.words()));
     }
     expected.push("no such refusal".to_string());
-    let printed: Vec<&str> = printed.lines().collect();
-    assert_eq!(printed, expected);
+    for (compiler, standard) in COMPILERS {
+        let printed = run(&compile(compiler, standard, "tests/c/header.c"));
+        let printed: Vec<&str> = printed.lines().collect();
+        assert_eq!(printed, expected, "{compiler}");
+    }
 }

@@ -10,7 +10,7 @@ use common::generate::*;
 use common::message::get_u32;
 use common::random::Random;
 use common::setting;
-use relay::{append, forward, read, write, Edition, Refusal, View, MAX_MESSAGE};
+use relay::{append, forward, read, write, Edition, Refusal, View, MAX_LENGTH};
 
 fn cases() -> u64 {
     setting("RELAY_CASES", 20_000)
@@ -69,7 +69,7 @@ fn any_message(random: &mut Random, edition: &Edition) -> Vec<u8> {
 
 /// What a relay forwards, with the view it shows.
 fn forwarded(edition: &Edition, message: &[u8]) -> (View, Vec<u8>) {
-    let mut output = vec![0xAA; MAX_MESSAGE];
+    let mut output = vec![0xAA; MAX_LENGTH];
     let view = forward(edition, message, &mut output).expect("accepted, with room");
     output.truncate(view.length);
     (view, output)
@@ -86,7 +86,7 @@ fn writing_from_a_view_gives_the_message_again() {
         if view.body_start != 21 || get_u32(&message, 16) & !edition.bits != 0 {
             return false;
         }
-        let mut built = vec![0xAA; MAX_MESSAGE];
+        let mut built = vec![0xAA; MAX_LENGTH];
         let mut last = write(
             &edition,
             view.request_id,
@@ -97,7 +97,7 @@ fn writing_from_a_view_gives_the_message_again() {
         )
         .expect("written");
         for sequence in view.sequences() {
-            let mut longer = vec![0x55; MAX_MESSAGE];
+            let mut longer = vec![0x55; MAX_LENGTH];
             last = append(
                 &edition,
                 &built[..last.length],
@@ -205,8 +205,8 @@ fn what_the_output_held_has_no_part_in_the_message() {
     for_cases(2, |random| {
         let edition = any_relay(random);
         let message = any_message(random, &edition);
-        let mut zeros = vec![0x00; MAX_MESSAGE];
-        let mut ones = vec![0xFF; MAX_MESSAGE];
+        let mut zeros = vec![0x00; MAX_LENGTH];
+        let mut ones = vec![0xFF; MAX_LENGTH];
         let first = forward(&edition, &message, &mut zeros);
         let second = forward(&edition, &message, &mut ones);
         assert_eq!(first, second);

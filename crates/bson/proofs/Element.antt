@@ -13,9 +13,9 @@ use Rattle.wire.specs.Bytes.{untilZero}
 use Rattle.wire.specs.Walk.{Step, step, Reader}
 use Rattle.wire.proofs.Outcome.{ok-same, went, passed, pass, bound, go-on}
 use Rattle.wire.proofs.Walk.{Advances, step-size}
-use Rattle.values.specs.Value.{Value, plain, embedded, scoped}
-use Rattle.elements.specs.Element.{maxElements, Head, head, inside, element, sizeOf, over, elementSize}
-use Rattle.values.proofs.Value.{Within, type-fits}
+use Rattle.bson_values.specs.Value.{Value, plain, embedded, scoped}
+use Rattle.bson_elements.specs.Element.{maxElements, Head, head, inside, element, sizeOf, over, elementSize}
+use Rattle.bson_values.proofs.Value.{Within, type-fits}
 use Rattle.bson.proofs.Steady.{Frames}
 
 -- some elements are allowed

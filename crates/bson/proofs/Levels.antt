@@ -9,7 +9,7 @@ use lib.ListN.{take, drop}
 use Rattle.wire.specs.Outcome.{Outcome, ok, refused, _>>=_}
 use Rattle.wire.specs.Walk.{Step, step, walk}
 use Rattle.wire.proofs.Outcome.{not-ok, ok-same, bound, check-leb}
-use Rattle.elements.specs.Element.{Head, head, element, maxElements}
+use Rattle.bson_elements.specs.Element.{Head, head, element, maxElements}
 use Rattle.bson.specs.Document.{frame, documentAt, told}
 use Rattle.bson.specs.Answers.{alone}
 use Rattle.bson.specs.declared.Walk.{Walk}

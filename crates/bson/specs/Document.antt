@@ -8,7 +8,7 @@ use lib.Dec.{ltb, eqb}
 use Rattle.wire.specs.Outcome.{Outcome, ok, refused, refuse, _>>=_}
 use Rattle.wire.specs.Bytes.{word, under}
 use Rattle.wire.specs.Walk.{Step, step, Reader, walk}
-use Rattle.elements.specs.Element.{element}
+use Rattle.bson_elements.specs.Element.{element}
 use Rattle.bson.specs.declared.Walk.{Walk}
 use Rattle.bson.specs.declared.Walk.the-variants.{Past, Refused}
 

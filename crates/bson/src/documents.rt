@@ -1,13 +1,13 @@
 // Documents and elements at all levels.
 use crate::Walk;
-use elements::Outline;
-use elements::head;
+use bson_elements::Outline;
+use bson_elements::head;
 use wire::under;
 use wire::word;
 ghost use mathlib.Core.Path.{_≡_};
 ghost use Prim.Native.Nat.{_+_, _^_, _<_};
 ghost use lib.ListN.{length};
-ghost use Rattle.elements.specs.Element.{element};
+ghost use Rattle.bson_elements.specs.Element.{element};
 ghost use Rattle.bson.specs.Document.{told, frame, documentAt};
 ghost use Rattle.bson.specs.Answers.{alone, Spans};
 

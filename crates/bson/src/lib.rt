@@ -5,7 +5,7 @@ ghost use mathlib.Core.Path.{_≡_};
 ghost use Rattle.bson.specs.Document.{told, documentAt, maxLevels};
 
 // The most levels of documents.
-pub const LEVELS: u32 = 32;
+pub const MAX_LEVELS: u32 = 32;
 
 // What reading something leaves: it took `size` bytes and `count` elements are counted by now, or a refusal.
 pub enum Walk {
@@ -17,5 +17,5 @@ pub enum Walk {
 pub fn document(s: &[u8], at: u32, count: u32) -> Walk
     ensures { λ r. ⌜ told r ≡ documentAt maxLevels at (now (s .entry)) count ⌝ }
 {
-    documents::document_at(s, at as usize, LEVELS, count)
+    documents::document_at(s, at as usize, MAX_LEVELS, count)
 }

@@ -4,19 +4,18 @@ use mathlib.Core.Path.{refl}
 use Rattle.wire.specs.Outcome.{refuse, _>>=_}
 use Rattle.wire.specs.Bytes.{word, wordAt, under, signed, untilZero, oneOf}
 use Rattle.wire.specs.Walk.{walk}
-use Rattle.values.specs.Value.{sized, table, ruleIn}
-use Rattle.elements.specs.Element.{maxElements, head, inside, element, sizeOf, elementSize}
+use Rattle.bson_values.specs.Value.{sized, table, ruleIn}
+use Rattle.bson_elements.specs.Element.{maxElements, head, inside, element, sizeOf, elementSize}
 use Rattle.bson.specs.Document.{maxLevels, frame, documentAt}
-use Rattle.protocol.specs.Flags.{common, kept, allKnown, checksummed, knows}
-use Rattle.protocol.specs.Layout.{maxLength, checksumSize, sectionsEnd, sectionBytes, checksumDiffers}
-use Rattle.protocol.specs.Sections.{maxSequences, bodyStart, bodySize, sequencesOf, bodySection, sectionOf, sectionAt}
-use Rattle.protocol.specs.Names.{sameText, among, distinct, elementNames, part, bodyNames, identifier, identifiers, texts}
-use Rattle.protocol.specs.View.{padded, viewOf}
-use Rattle.protocol.specs.Read.{header, flagged, parts, distinctNames, content, read}
-use Rattle.fields.specs.Decimal.{digits, decimal, signedDecimal}
-use Rattle.fields.specs.Fields.{line}
-use Rattle.summary.specs.MessageLine.{messageLine}
-use Rattle.lines.specs.Lines.{firstLine, badLine, endLine}
+use Rattle.opmsg.specs.Flags.{common, kept, allKnown, checksummed, knows}
+use Rattle.opmsg.specs.Layout.{maxLength, checksumSize, sectionsEnd, sectionBytes, checksumDiffers}
+use Rattle.opmsg.specs.Sections.{maxSequences, bodyStart, bodySize, sequencesOf, bodySection, sectionOf, sectionAt}
+use Rattle.opmsg.specs.Names.{sameText, among, distinct, elementNames, part, bodyNames, identifier, identifiers, texts}
+use Rattle.opmsg.specs.View.{padded, viewOf}
+use Rattle.opmsg.specs.Read.{header, flagged, parts, distinctNames, content, read}
+use Rattle.listing_lines.specs.Decimal.{digits, decimal, signedDecimal}
+use Rattle.listing_lines.specs.Fields.{line}
+use Rattle.listing_lines.specs.Lines.{firstLine, messageLine, badLine, endLine}
 use Rattle.listing.specs.Next.{stepOf, next}
 use Rattle.listing.specs.Listing.{lines, listing, Example}
 

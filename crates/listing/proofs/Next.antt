@@ -10,14 +10,14 @@ use lib.Dec.{ltb, leb}
 use borrow.Author.Tests.{ltb-true, leb-true}
 use Rattle.wire.specs.Outcome.{Outcome, ok, refused}
 use Rattle.wire.specs.Bytes.{under}
-use Rattle.protocol.specs.Layout.{maxLength, messageLength}
-use Rattle.protocol.specs.Read.{read}
-use Rattle.protocol.specs.View.{answer, viewOf}
-use Rattle.protocol.specs.declared.Edition.{Edition}
-use Rattle.protocol.specs.declared.View.{View}
-use Rattle.protocol.specs.declared.Reading.{Reading}
-use Rattle.protocol.specs.declared.Verdict.the-variants.{Accepted, Refused}
-use Rattle.protocol.proofs.Accepted.{reads}
+use Rattle.opmsg.specs.Layout.{maxLength, messageLength}
+use Rattle.opmsg.specs.Read.{read}
+use Rattle.opmsg.specs.View.{answer, viewOf}
+use Rattle.opmsg.specs.declared.Edition.{Edition}
+use Rattle.opmsg.specs.declared.View.{View}
+use Rattle.opmsg.specs.declared.Reading.{Reading}
+use Rattle.opmsg.specs.declared.Verdict.the-variants.{Accepted, Refused}
+use Rattle.opmsg.proofs.Accepted.{reads}
 use Rattle.listing.specs.Next.{short, Within, summaryOf}
 use Rattle.listing.specs.declared.Step.the-variants.{Message}
 

@@ -12,10 +12,11 @@ use borrow.Author.Tests.{ltb-false, leb-false, le-ltb, lt-ltb, ne-eqb}
 use Rattle.wire.specs.Outcome.{refuse, _>>=_}
 use Rattle.wire.specs.Bytes.{under}
 use Rattle.wire.proofs.Bytes.{wordAt-front, under-false}
-use Rattle.protocol.specs.Layout.{maxLength, messageLength}
-use Rattle.protocol.specs.Read.{header, read}
-use Rattle.protocol.proofs.Front.{read-front}
-use Rattle.listing.specs.Next.{house, short, stepOf, next}
+use Rattle.opmsg.specs.Flags.{house}
+use Rattle.opmsg.specs.Layout.{maxLength, messageLength}
+use Rattle.opmsg.specs.Read.{header, read}
+use Rattle.opmsg.proofs.Front.{read-front}
+use Rattle.listing.specs.Next.{short, stepOf, next}
 use Rattle.listing.specs.Listing.{Settled}
 
 module _ (s later : List ℕ) (head : 16 ≤ length s) where

@@ -5,8 +5,8 @@ use mathlib.Core.Bool.{true, false}
 use mathlib.Core.Path.{_≡_}
 use mathlib.Core.List.{List, [], _∷_, _++_}
 use lib.ListN.{length, drop}
-use Rattle.summary.specs.MessageLine.{messageLine}
-use Rattle.lines.specs.Lines.{firstLine, badLine, endLine}
+use Rattle.opmsg.specs.Ping.{ping}
+use Rattle.listing_lines.specs.Lines.{firstLine, messageLine, badLine, endLine}
 use Rattle.listing.specs.Next.{short, next}
 use Rattle.listing.specs.declared.Step.the-variants.{Message, Bad, More, End}
 
@@ -30,9 +30,7 @@ Settled = (s later : List ℕ) → short s ≡ false → next true (s ++ later) 
 
 -- document 01's example: its ping and three stray bytes
 abbrev pub pingAndThree : List ℕ
-pingAndThree =
-    0x24 ∷ 0 ∷ 0 ∷ 0 ∷ 7 ∷ 0 ∷ 0 ∷ 0 ∷ 0 ∷ 0 ∷ 0 ∷ 0 ∷ 0xDD ∷ 7 ∷ 0 ∷ 0 ∷ 0 ∷ 0 ∷ 0 ∷ 0 ∷ 0 ∷ 0x0F ∷ 0 ∷ 0 ∷ 0 ∷ 0x10 ∷ 0x70 ∷ 0x69 ∷ 0x6E ∷ 0x67 ∷ 0 ∷ 1 ∷ 0 ∷ 0 ∷ 0
-    ∷ 0 ∷ 97 ∷ 98 ∷ 99 ∷ []
+pingAndThree = ping ++ 97 ∷ 98 ∷ 99 ∷ []
 
 -- `relay-log`, 1; `msg`, 0, 36, 7, 0, 0, 0, 1; `bad`, 36, 1, 0; `end`, 1
 abbrev pub itsLines : List ℕ

@@ -7,17 +7,13 @@ use lib.ListN.{length}
 use lib.Dec.{eqb, leb, ltb}
 use Rattle.wire.specs.Outcome.{Outcome, ok, refused}
 use Rattle.wire.specs.Bytes.{under}
-use Rattle.protocol.specs.Layout.{maxLength, messageLength}
-use Rattle.protocol.specs.Read.{read}
-use Rattle.protocol.specs.declared.Edition.{Edition}
-use Rattle.protocol.specs.declared.View.{View}
-use Rattle.summary.specs.declared.Summary.{Summary}
+use Rattle.opmsg.specs.Flags.{house}
+use Rattle.opmsg.specs.Layout.{maxLength, messageLength}
+use Rattle.opmsg.specs.Read.{read}
+use Rattle.opmsg.specs.declared.View.{View}
+use Rattle.listing_lines.specs.declared.Summary.{Summary}
 use Rattle.listing.specs.declared.Step.{Step}
 use Rattle.listing.specs.declared.Step.the-variants.{Message, Bad, More, End}
-
--- bits 0, 1 and 16, and kind 1
-abbrev pub house : Edition
-house = record { bits = 0x1_0003; sequences = true }
 
 -- what a line tells of a message
 abbrev pub summaryOf : View → Summary

@@ -1,7 +1,7 @@
 // The listing of a stream of messages: what comes next by the bytes at hand.
 pub mod stream;
 
-use summary::Summary;
+use listing_lines::Summary;
 
 // What comes next in a stream.
 pub enum Step {

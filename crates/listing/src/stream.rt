@@ -1,15 +1,16 @@
 // A stream of messages back to back, of which a buffer holds a part.
 use crate::Step;
-use header::LENGTH;
-use protocol::Edition;
-use protocol::Verdict;
-use summary::Summary;
+use listing_lines::Summary;
+use opmsg::Verdict;
+use opmsg::house;
+use opmsg_header::MAX_LENGTH;
 use wire::under;
 use wire::word;
 ghost use mathlib.Core.Path.{_≡_};
 ghost use lib.ListN.{length};
-ghost use Rattle.protocol.specs.Read.{read};
-ghost use Rattle.listing.specs.Next.{house, short, stepOf, next, Within};
+ghost use Rattle.opmsg.specs.Flags.{house};
+ghost use Rattle.opmsg.specs.Read.{read};
+ghost use Rattle.listing.specs.Next.{short, stepOf, next, Within};
 
 // The bytes at hand are short of a header, or of the message whose length it says.
 fn short(s: &[u8]) -> bool
@@ -22,7 +23,7 @@ fn short(s: &[u8]) -> bool
     if under(16, n) {
         return false;
     }
-    if LENGTH < n {
+    if MAX_LENGTH < n {
         return false;
     }
     s.len() < n as usize
@@ -33,11 +34,7 @@ fn judge(s: &[u8]) -> Step
     ensures { λ r. ⌜ r ≡ stepOf (read house (now (s .entry))) ⌝ }
     ensures { λ r. ⌜ Within (length (now (s .entry))) r ⌝ }
 {
-    let house = Edition {
-        bits: 0x1_0003,
-        sequences: true,
-    };
-    let reading = opmsg::read(house, s);
+    let reading = opmsg_read::read(house(), s);
     let verdict = reading.verdict;
     if let Verdict::Refused { number, place } = verdict {
         return Step::Bad { number, place };

@@ -12,16 +12,16 @@ use Rattle.wire.specs.Outcome.{Outcome, ok, refused, refuse, _>>=_}
 use Rattle.wire.specs.Walk.{Step, walk}
 use Rattle.wire.proofs.Outcome.{ok-same, went, passed, pass, stop, bound, go-on, halt}
 use Rattle.wire.proofs.Walk.{walk-step}
-use Rattle.protocol.specs.Flags.{kept, allKnown, knows}
-use Rattle.protocol.specs.Layout.{flagWord, sectionsEnd, sectionBytes}
-use Rattle.protocol.specs.Sections.{Section, placeOf, kindOf, Parts, nothing, sectionAt}
-use Rattle.protocol.specs.View.{viewOf}
-use Rattle.protocol.specs.Read.{parts, read}
-use Rattle.protocol.proofs.Section.{section-read, section-other, section-added}
-use Rattle.protocol.proofs.Accepted.{Reads, reads, bits-refused, sections-refused, accepted}
+use Rattle.opmsg.specs.Flags.{kept, allKnown, knows}
+use Rattle.opmsg.specs.Layout.{flagWord, sectionsEnd, sectionBytes}
+use Rattle.opmsg.specs.Sections.{Section, placeOf, kindOf, Parts, nothing, sectionAt}
+use Rattle.opmsg.specs.View.{viewOf}
+use Rattle.opmsg.specs.Read.{parts, read}
+use Rattle.opmsg.proofs.Section.{section-read, section-other, section-added}
+use Rattle.opmsg.proofs.Accepted.{Reads, reads, bits-refused, sections-refused, accepted}
 use Rattle.message.specs.Editions.{listed, sectionsOf, KnowsKinds, withFlags}
-use Rattle.protocol.specs.declared.Edition.{Edition}
-use Rattle.protocol.specs.declared.View.{View}
+use Rattle.opmsg.specs.declared.Edition.{Edition}
+use Rattle.opmsg.specs.declared.View.{View}
 
 -- refuse the first section of a kind that the edition doesn't know
 unfoldable pub kindsKnown : Edition → List Section → Outcome (Unit {0})

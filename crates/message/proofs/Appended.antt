@@ -9,9 +9,9 @@ use lib.Seq.{take-take, drop-append-add, drop-drop, length-take-le}
 use Rattle.wire.specs.Bytes.{word, wordAt, le32}
 use Rattle.wire.proofs.Bytes.{word-le32, wordAt-front}
 use Rattle.wire.proofs.Agree.{inner-take}
-use Rattle.protocol.specs.Layout.{maxLength, messageLength, flagWord, sectionsEnd, sectionBytes}
-use Rattle.protocol.proofs.Accepted.{Sound}
-use Rattle.protocol.proofs.Limits.{maxLength-small}
+use Rattle.opmsg.specs.Layout.{maxLength, messageLength, flagWord, sectionsEnd, sectionBytes}
+use Rattle.opmsg.proofs.Accepted.{Sound}
+use Rattle.opmsg.proofs.Limits.{maxLength-small}
 use Rattle.message.specs.Message.{wholeLength}
 use Rattle.message.specs.Append.{appended}
 use Rattle.message.proofs.Message.{Headed, message-word, message-header, message-flags, message-end, message-sections, message-length, message-sound}

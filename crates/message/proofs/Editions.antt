@@ -8,16 +8,16 @@ use mathlib.Core.Logic.{_↔_}
 use native.Mathlib.Omega.{arith}
 use Rattle.wire.specs.Outcome.{ok, refused}
 use Rattle.wire.proofs.Outcome.{ok-same, passed, went, pass, stop, go-on, halt}
-use Rattle.protocol.specs.Flags.{kept, allKnown, knows}
-use Rattle.protocol.specs.Layout.{flagWord}
-use Rattle.protocol.specs.Sections.{Section, placeOf, kindOf}
-use Rattle.protocol.specs.Read.{read}
-use Rattle.protocol.proofs.Bits.{Known, allKnown-known, known-allKnown, bits-known, known-bits, kept-swap, kept-within, kept-known, kept-known′}
+use Rattle.opmsg.specs.Flags.{kept, allKnown, knows}
+use Rattle.opmsg.specs.Layout.{flagWord}
+use Rattle.opmsg.specs.Sections.{Section, placeOf, kindOf}
+use Rattle.opmsg.specs.Read.{read}
+use Rattle.opmsg.proofs.Bits.{Known, allKnown-known, known-allKnown, bits-known, known-bits, kept-swap, kept-within, kept-known, kept-known′}
 use Rattle.message.specs.Forward.{forwarded}
 use Rattle.message.specs.Editions.{Newer, Accepts, sectionsOf, KnowsBits, KnowsKinds, FirstUnknown, withFlags, Room, sent}
 use Rattle.message.specs.Demand3.{Demand3}
-use Rattle.protocol.specs.declared.Edition.{Edition}
-use Rattle.protocol.specs.declared.View.{View}
+use Rattle.opmsg.specs.declared.Edition.{Edition}
+use Rattle.opmsg.specs.declared.View.{View}
 use Rattle.message.proofs.Answers.{kindsKnown, kinds-known, read-answer, accepts-kinds}
 use Rattle.message.proofs.Forwarded.{required, view-flags, forwarded-again, forwarded-answer, sent-forwarded}
 

@@ -12,19 +12,19 @@ use borrow.Author.Tests.{le-ltb}
 use Rattle.wire.specs.Outcome.{ok, refuse, _>>=_}
 use Rattle.wire.specs.Bytes.{wordAt}
 use Rattle.wire.proofs.Outcome.{pass, go-on}
-use Rattle.protocol.specs.Flags.{kept}
-use Rattle.protocol.specs.Layout.{messageLength, flagWord, sectionsEnd, sectionBytes}
-use Rattle.protocol.specs.Sections.{Parts}
-use Rattle.protocol.specs.View.{viewOf}
-use Rattle.protocol.specs.Read.{parts, read}
+use Rattle.opmsg.specs.Flags.{kept}
+use Rattle.opmsg.specs.Layout.{messageLength, flagWord, sectionsEnd, sectionBytes}
+use Rattle.opmsg.specs.Sections.{Parts}
+use Rattle.opmsg.specs.View.{viewOf}
+use Rattle.opmsg.specs.Read.{parts, read}
 use Rattle.message.specs.Message.{output}
 use Rattle.message.specs.Forward.{forwarded, forward}
 use Rattle.message.specs.Editions.{sectionsOf, KnowsKinds, withFlags, Room, sent}
-use Rattle.protocol.specs.declared.Edition.{Edition}
-use Rattle.protocol.specs.declared.View.{View}
-use Rattle.protocol.proofs.Accepted.{Sound, Differ, reads, accepted}
+use Rattle.opmsg.specs.declared.Edition.{Edition}
+use Rattle.opmsg.specs.declared.View.{View}
+use Rattle.opmsg.proofs.Accepted.{Sound, Differ, reads, accepted}
 use Rattle.message.proofs.Answers.{kinds-known, read-answer}
-use Rattle.protocol.proofs.Bits.{Known, known-self, allKnown-known, known-allKnown, kept-lt, kept-within, kept-known, kept-bit0}
+use Rattle.opmsg.proofs.Bits.{Known, known-self, allKnown-known, known-allKnown, kept-lt, kept-within, kept-known, kept-bit0}
 use Rattle.message.proofs.Message.{Headed, message-word, message-header, message-flags, message-end, message-sections, message-length, message-sound, header-word, stated-end, headed}
 
 same-view : (e : Edition) (m s : List ℕ) (p : Parts) → wordAt 0 m ≡ wordAt 0 s → wordAt 4 m ≡ wordAt 4 s → wordAt 8 m ≡ wordAt 8 s

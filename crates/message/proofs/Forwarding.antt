@@ -6,9 +6,9 @@ use mathlib.Core.List.{List}
 use borrow.Author.Tests.{lt-ltb, le-ltb}
 use Rattle.wire.specs.Outcome.{ok, refused}
 use Rattle.wire.proofs.Outcome.{pass, stop, go-on, halt}
-use Rattle.protocol.specs.Read.{read}
-use Rattle.protocol.specs.declared.Edition.{Edition}
-use Rattle.protocol.specs.declared.View.{View}
+use Rattle.opmsg.specs.Read.{read}
+use Rattle.opmsg.specs.declared.Edition.{Edition}
+use Rattle.opmsg.specs.declared.View.{View}
 use Rattle.message.specs.Forward.{forwarded, forward}
 
 module _ (e : Edition) (s : List ℕ) (room : ℕ) where

@@ -11,10 +11,10 @@ use borrow.Author.Tests.{eq-eqb, eqb-true, not-false}
 use Rattle.wire.specs.Bytes.{wordAt, le32}
 use Rattle.wire.proofs.Bytes.{word-le32, wordAt-front}
 use Rattle.crc32c.specs.Crc.{crcOf}
-use Rattle.protocol.specs.Flags.{checksummed}
-use Rattle.protocol.specs.Layout.{maxLength, messageLength, flagWord, checksumSize, sectionsEnd, sectionBytes, checksumDiffers}
+use Rattle.opmsg.specs.Flags.{checksummed}
+use Rattle.opmsg.specs.Layout.{maxLength, messageLength, flagWord, checksumSize, sectionsEnd, sectionBytes, checksumDiffers}
 use Rattle.message.specs.Message.{checksum, message, wholeLength}
-use Rattle.protocol.proofs.Accepted.{Sound}
+use Rattle.opmsg.proofs.Accepted.{Sound}
 
 pub crc-lt : (m : List ℕ) → crcOf m < 2 ^ 32
 unfolding crcOf

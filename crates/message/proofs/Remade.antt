@@ -13,21 +13,21 @@ use Rattle.wire.specs.Walk.{walk}
 use Rattle.wire.specs.Bytes.{Bytes, word, wordAt, le32, signed, untilZero}
 use Rattle.wire.proofs.Bytes.{bytes-drop, word-lt, bits32-signed, wordAt-front}
 use Rattle.wire.proofs.Walk.{walk-turns}
-use Rattle.protocol.specs.Flags.{kept, knows}
-use Rattle.protocol.specs.Layout.{maxLength, messageLength, flagWord, sectionBytes}
-use Rattle.protocol.specs.Sections.{maxSequences, Parts, nothing, bodyStart, sequencesOf, sectionAt}
-use Rattle.protocol.specs.View.{viewOf}
-use Rattle.protocol.specs.Read.{parts, read}
+use Rattle.opmsg.specs.Flags.{kept, knows}
+use Rattle.opmsg.specs.Layout.{maxLength, messageLength, flagWord, sectionBytes}
+use Rattle.opmsg.specs.Sections.{maxSequences, Parts, nothing, bodyStart, sequencesOf, sectionAt}
+use Rattle.opmsg.specs.View.{viewOf}
+use Rattle.opmsg.specs.Read.{parts, read}
 use Rattle.message.specs.Message.{wholeLength, output}
 use Rattle.message.specs.Write.{written, write}
 use Rattle.message.specs.Append.{sequenceBytes, appended, append}
 use Rattle.message.specs.Editions.{Room}
 use Rattle.message.specs.RoundTrip.{firstMessage}
-use Rattle.protocol.specs.declared.Edition.{Edition}
-use Rattle.protocol.specs.declared.View.{View}
-use Rattle.protocol.proofs.Accepted.{Sound, Differ, reads, accepted}
-use Rattle.protocol.proofs.Section.{section-steady}
-use Rattle.protocol.proofs.Bits.{Known, known-allKnown, kept-all}
+use Rattle.opmsg.specs.declared.Edition.{Edition}
+use Rattle.opmsg.specs.declared.View.{View}
+use Rattle.opmsg.proofs.Accepted.{Sound, Differ, reads, accepted}
+use Rattle.opmsg.proofs.Section.{section-steady}
+use Rattle.opmsg.proofs.Bits.{Known, known-allKnown, kept-all}
 use Rattle.message.proofs.Message.{stated-length}
 use Rattle.message.proofs.Whole.{word-bytes-at, whole}
 use Rattle.message.proofs.Appended.{appended-flags, appended-end, appended-sections, appended-length, appended-sound, appended-rest}

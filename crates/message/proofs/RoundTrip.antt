@@ -17,23 +17,23 @@ use Rattle.wire.proofs.Agree.{inner-take, agree-word, agree-take}
 use Rattle.wire.proofs.Walk.{walk-done, walk-step, walk-one, walk-append}
 use Rattle.bson.specs.Document.{maxLevels}
 use Rattle.bson.proofs.Frame.{Framed, document-framed}
-use Rattle.protocol.specs.Flags.{knows}
-use Rattle.protocol.specs.Layout.{flagWord, sectionsEnd, sectionBytes}
-use Rattle.protocol.specs.Sections.{Section, body, bodyStart, bodySize, sequencesOf, Parts, nothing, sectionAt}
-use Rattle.protocol.specs.View.{viewOf}
-use Rattle.protocol.specs.Read.{parts, read}
-use Rattle.protocol.proofs.Accepted.{reads}
-use Rattle.protocol.proofs.Bits.{Known, bits-known}
-use Rattle.protocol.proofs.Section.{stated, nameLength, sequenceAt, BodyRead, SequenceRead, SectionRead, a-body, a-sequence, section-read, section-steady}
-use Rattle.protocol.proofs.Differ.{Within, within-more, within-append, front-differ}
-use Rattle.protocol.proofs.Shown.{padded-front, sequences-append, body-before}
+use Rattle.opmsg.specs.Flags.{knows}
+use Rattle.opmsg.specs.Layout.{flagWord, sectionsEnd, sectionBytes}
+use Rattle.opmsg.specs.Sections.{Section, body, bodyStart, bodySize, sequencesOf, Parts, nothing, sectionAt}
+use Rattle.opmsg.specs.View.{viewOf}
+use Rattle.opmsg.specs.Read.{parts, read}
+use Rattle.opmsg.proofs.Accepted.{reads}
+use Rattle.opmsg.proofs.Bits.{Known, bits-known}
+use Rattle.opmsg.proofs.Section.{stated, nameLength, sequenceAt, BodyRead, SequenceRead, SectionRead, a-body, a-sequence, section-read, section-steady}
+use Rattle.opmsg.proofs.Differ.{Within, within-more, within-append, front-differ}
+use Rattle.opmsg.proofs.Shown.{padded-front, sequences-append, body-before}
 use Rattle.message.specs.Message.{output}
 use Rattle.message.specs.Write.{write}
 use Rattle.message.specs.Append.{sequenceBytes, append}
 use Rattle.message.specs.Editions.{Room}
 use Rattle.message.specs.RoundTrip.{RoundTrip, firstMessage, stretch, appendedTo, remade}
-use Rattle.protocol.specs.declared.Edition.{Edition}
-use Rattle.protocol.specs.declared.View.{View}
+use Rattle.opmsg.specs.declared.Edition.{Edition}
+use Rattle.opmsg.specs.declared.View.{View}
 use Rattle.message.proofs.Sequence.{nameOf, documentsOf, name-length, name-whole, sequence-bytes}
 use Rattle.message.proofs.Remade.{made, flags-kept, made-read, append-made, write-made, whole-made}
 

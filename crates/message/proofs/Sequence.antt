@@ -8,7 +8,7 @@ use lib.ListN.{length, getD, take, drop, length-drop}
 use lib.Seq.{take-add, take-suc, take-take, drop-drop, drop-cons, getD-take, length-take-le}
 use Rattle.wire.specs.Bytes.{Bytes, untilZero}
 use Rattle.wire.proofs.Bytes.{bytes-drop, le32-word, until-zero, until-front}
-use Rattle.protocol.proofs.Section.{stated, nameLength}
+use Rattle.opmsg.proofs.Section.{stated, nameLength}
 use Rattle.message.specs.Append.{sequenceBytes}
 
 -- of the sequence at the start of zs

@@ -9,29 +9,24 @@ use lib.IntN.{pos}
 use Rattle.wire.specs.Outcome.{Outcome, ok, refused, refuse, _>>=_}
 use Rattle.wire.specs.Bytes.{word, wordAt, under, signed, bits32, le32, untilZero, oneOf}
 use Rattle.wire.specs.Walk.{walk}
-use Rattle.values.specs.Value.{sized, cstring, string, binary, boolean, regex, pointer, codeWithScope, table, ruleIn}
-use Rattle.elements.specs.Element.{maxElements, head, inside, element, sizeOf, elementSize}
+use Rattle.bson_values.specs.Value.{sized, cstring, string, binary, boolean, regex, pointer, codeWithScope, table, ruleIn}
+use Rattle.bson_elements.specs.Element.{maxElements, head, inside, element, sizeOf, elementSize}
 use Rattle.bson.specs.Document.{maxLevels, frame, documentAt}
-use Rattle.protocol.specs.Flags.{common, kept, allKnown, checksummed, knows}
-use Rattle.protocol.specs.Layout.{maxLength, checksumSize, sectionsEnd, sectionBytes, checksumDiffers}
-use Rattle.protocol.specs.Sections.{maxSequences, bodyStart, bodySize, sequencesOf, nextDocument, bodySection, sequenceRun, sequenceNamed, sequenceSection, sectionOf, sectionAt}
-use Rattle.protocol.specs.Names.{sameText, among, distinct, elementNames, part, bodyNames, identifier, identifiers, texts}
-use Rattle.protocol.specs.View.{noSequence, padded, viewOf}
-use Rattle.protocol.specs.Read.{header, flagged, parts, distinctNames, content, read}
+use Rattle.opmsg.specs.Flags.{common, kept, allKnown, checksummed, knows, house}
+use Rattle.opmsg.specs.Layout.{maxLength, checksumSize, sectionsEnd, sectionBytes, checksumDiffers}
+use Rattle.opmsg.specs.Sections.{maxSequences, bodyStart, bodySize, sequencesOf, nextDocument, bodySection, sequenceRun, sequenceNamed, sequenceSection, sectionOf, sectionAt}
+use Rattle.opmsg.specs.Names.{sameText, among, distinct, elementNames, part, bodyNames, identifier, identifiers, texts}
+use Rattle.opmsg.specs.View.{noSequence, padded, viewOf}
+use Rattle.opmsg.specs.Read.{header, flagged, parts, distinctNames, content, read}
+use Rattle.opmsg.specs.Ping.{ping}
 use Rattle.message.specs.Message.{checksum, message, wholeLength, Written}
 use Rattle.message.specs.Forward.{forwarded, forward}
 use Rattle.message.specs.Append.{sequenceBytes, appended, append}
-use Rattle.protocol.specs.declared.Edition.{Edition}
-use Rattle.protocol.specs.declared.View.{View}
-
-abbrev house : Edition
-house = record { bits = 0x1_0003; sequences = true }
+use Rattle.opmsg.specs.declared.Edition.{Edition}
+use Rattle.opmsg.specs.declared.View.{View}
 
 abbrev bodiesOnly : Edition
-bodiesOnly = record { bits = 0x1_0003; sequences = false }
-
-abbrev ping : List ℕ
-ping = 0x24 ∷ 0 ∷ 0 ∷ 0 ∷ 7 ∷ 0 ∷ 0 ∷ 0 ∷ 0 ∷ 0 ∷ 0 ∷ 0 ∷ 0xDD ∷ 7 ∷ 0 ∷ 0 ∷ 0 ∷ 0 ∷ 0 ∷ 0 ∷ 0 ∷ 0x0F ∷ 0 ∷ 0 ∷ 0 ∷ 0x10 ∷ 0x70 ∷ 0x69 ∷ 0x6E ∷ 0x67 ∷ 0 ∷ 1 ∷ 0 ∷ 0 ∷ 0 ∷ 0 ∷ []
+bodiesOnly = record { bits = house .bits; sequences = false }
 
 abbrev pingShown : View
 pingShown = record { length = 36; «request_id» = pos 7; «response_to» = pos 0; flags = 0; body = 21; «body_length» = 15; «sequence_count» = 0; sequences = replicate 16 noSequence; elements = 1 }

@@ -10,13 +10,13 @@ use lib.Seq.{take-add, drop-drop}
 use Rattle.wire.specs.Outcome.{ok}
 use Rattle.wire.specs.Bytes.{Bytes, wordAt, le32}
 use Rattle.wire.proofs.Bytes.{bytes-drop, le32-word}
-use Rattle.protocol.specs.Flags.{checksummed}
-use Rattle.protocol.specs.Layout.{messageLength, flagWord, sectionsEnd, sectionBytes}
-use Rattle.protocol.specs.Read.{read}
+use Rattle.opmsg.specs.Flags.{checksummed}
+use Rattle.opmsg.specs.Layout.{messageLength, flagWord, sectionsEnd, sectionBytes}
+use Rattle.opmsg.specs.Read.{read}
 use Rattle.message.specs.Message.{checksum, message}
-use Rattle.protocol.specs.declared.Edition.{Edition}
-use Rattle.protocol.specs.declared.View.{View}
-use Rattle.protocol.proofs.Accepted.{reads}
+use Rattle.opmsg.specs.declared.Edition.{Edition}
+use Rattle.opmsg.specs.declared.View.{View}
+use Rattle.opmsg.proofs.Accepted.{reads}
 use Rattle.message.proofs.Message.{size-with, size-without, checksum-with, checksum-without, right-checksum, stated-end}
 
 module _ (e : Edition) (s : List ℕ) (v : View) (h : read e s ≡ ok v) (b : Bytes s) where

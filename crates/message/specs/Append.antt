@@ -7,12 +7,12 @@ use lib.ListN.{length, take, drop}
 use lib.Dec.{ltb, leb, eqb}
 use Rattle.wire.specs.Outcome.{Outcome, ok, refuse, _>>=_}
 use Rattle.wire.specs.Bytes.{untilZero, le32}
-use Rattle.protocol.specs.Flags.{knows}
-use Rattle.protocol.specs.Layout.{maxLength, sectionsEnd, sectionBytes}
-use Rattle.protocol.specs.Sections.{maxSequences}
-use Rattle.protocol.specs.Read.{read}
+use Rattle.opmsg.specs.Flags.{knows}
+use Rattle.opmsg.specs.Layout.{maxLength, sectionsEnd, sectionBytes}
+use Rattle.opmsg.specs.Sections.{maxSequences}
+use Rattle.opmsg.specs.Read.{read}
 use Rattle.message.specs.Message.{message, wholeLength, Written}
-use Rattle.protocol.specs.declared.Edition.{Edition}
+use Rattle.opmsg.specs.declared.Edition.{Edition}
 
 -- a section of kind 1
 unfoldable pub sequenceBytes : (identifier documents : List ℕ) → List ℕ

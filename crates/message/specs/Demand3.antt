@@ -5,12 +5,12 @@ use mathlib.Core.Path.{_≡_}
 use mathlib.Core.List.{List}
 use mathlib.Core.Logic.{_↔_}
 use Rattle.wire.specs.Outcome.{ok, refused}
-use Rattle.protocol.specs.Flags.{kept}
-use Rattle.protocol.specs.Sections.{Section, placeOf}
-use Rattle.protocol.specs.Read.{read}
+use Rattle.opmsg.specs.Flags.{kept}
+use Rattle.opmsg.specs.Sections.{Section, placeOf}
+use Rattle.opmsg.specs.Read.{read}
 use Rattle.message.specs.Editions.{Newer, Accepts, sectionsOf, KnowsBits, KnowsKinds, FirstUnknown, withFlags, Room, sent}
-use Rattle.protocol.specs.declared.Edition.{Edition}
-use Rattle.protocol.specs.declared.View.{View}
+use Rattle.opmsg.specs.declared.Edition.{Edition}
+use Rattle.opmsg.specs.declared.View.{View}
 
 pub record Demand3 : Type 0 where
   -- Take any two editions where the newer knows all that the older knows, and whatever message the newer accepts.

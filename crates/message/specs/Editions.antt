@@ -6,14 +6,14 @@ use mathlib.Core.List.{List, [], _∷_, _++_}
 use lib.ListN.{length, take}
 use lib.Dec.{T}
 use Rattle.wire.specs.Outcome.{Outcome, ok, refused}
-use Rattle.protocol.specs.Flags.{bit, knows}
-use Rattle.protocol.specs.Layout.{messageLength, flagWord}
-use Rattle.protocol.specs.Sections.{Section, kindOf, Parts}
-use Rattle.protocol.specs.Read.{parts, read}
+use Rattle.opmsg.specs.Flags.{bit, knows}
+use Rattle.opmsg.specs.Layout.{messageLength, flagWord}
+use Rattle.opmsg.specs.Sections.{Section, kindOf, Parts}
+use Rattle.opmsg.specs.Read.{parts, read}
 use Rattle.message.specs.Message.{output}
 use Rattle.message.specs.Forward.{forward}
-use Rattle.protocol.specs.declared.Edition.{Edition}
-use Rattle.protocol.specs.declared.View.{View}
+use Rattle.opmsg.specs.declared.Edition.{Edition}
+use Rattle.opmsg.specs.declared.View.{View}
 
 -- the one edition knows every flag bit and every section kind that the other knows
 pub record Newer (new old : Edition) : Type 0 where

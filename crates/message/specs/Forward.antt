@@ -5,11 +5,11 @@ use mathlib.Core.List.{List}
 use lib.ListN.{take}
 use lib.Dec.{ltb}
 use Rattle.wire.specs.Outcome.{Outcome, ok, refuse, _>>=_}
-use Rattle.protocol.specs.Layout.{sectionBytes}
-use Rattle.protocol.specs.Read.{read}
+use Rattle.opmsg.specs.Layout.{sectionBytes}
+use Rattle.opmsg.specs.Read.{read}
 use Rattle.message.specs.Message.{message, Written}
-use Rattle.protocol.specs.declared.Edition.{Edition}
-use Rattle.protocol.specs.declared.View.{View}
+use Rattle.opmsg.specs.declared.Edition.{Edition}
+use Rattle.opmsg.specs.declared.View.{View}
 
 -- the message s with the flag word of its view, and the checksum worked out anew
 unfoldable pub forwarded : List ℕ → View → List ℕ

@@ -7,9 +7,9 @@ use lib.ListN.{length, drop}
 use Rattle.wire.specs.Outcome.{Outcome, ok, refused, _>>=_}
 use Rattle.wire.specs.Bytes.{le32}
 use Rattle.crc32c.specs.Crc.{crcOf}
-use Rattle.protocol.specs.Flags.{checksummed}
-use Rattle.protocol.specs.Layout.{checksumSize}
-use Rattle.protocol.specs.declared.View.{View}
+use Rattle.opmsg.specs.Flags.{checksummed}
+use Rattle.opmsg.specs.Layout.{checksumSize}
+use Rattle.opmsg.specs.declared.View.{View}
 
 -- the checksum of the bytes m, where bit 0 is set
 unfoldable pub checksum : ℕ → List ℕ → List ℕ

@@ -6,15 +6,15 @@ use mathlib.Core.Path.{_≡_}
 use lib.ListN.{length, getD, take, drop}
 use Rattle.wire.specs.Outcome.{ok}
 use Rattle.wire.specs.Bytes.{Bytes}
-use Rattle.protocol.specs.Layout.{messageLength}
-use Rattle.protocol.specs.Read.{read}
+use Rattle.opmsg.specs.Layout.{messageLength}
+use Rattle.opmsg.specs.Read.{read}
 use Rattle.message.specs.Message.{output}
 use Rattle.message.specs.Write.{write}
 use Rattle.message.specs.Append.{append}
 use Rattle.message.specs.Editions.{KnowsBits, Room}
-use Rattle.protocol.specs.declared.Edition.{Edition}
-use Rattle.protocol.specs.declared.Sequence.{Sequence}
-use Rattle.protocol.specs.declared.View.{View}
+use Rattle.opmsg.specs.declared.Edition.{Edition}
+use Rattle.opmsg.specs.declared.Sequence.{Sequence}
+use Rattle.opmsg.specs.declared.View.{View}
 
 -- the body comes first: the kind byte of the first section is 0
 abbrev pub BodyFirst : List ℕ → Type 0

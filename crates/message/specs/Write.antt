@@ -8,11 +8,11 @@ use lib.IntN.{ℤ}
 use lib.Dec.{ltb, eqb}
 use Rattle.wire.specs.Outcome.{Outcome, ok, refuse, _>>=_}
 use Rattle.wire.specs.Bytes.{word, le32, bits32}
-use Rattle.protocol.specs.Flags.{allKnown}
-use Rattle.protocol.specs.Layout.{maxLength}
-use Rattle.protocol.specs.Read.{read}
+use Rattle.opmsg.specs.Flags.{allKnown}
+use Rattle.opmsg.specs.Layout.{maxLength}
+use Rattle.opmsg.specs.Read.{read}
 use Rattle.message.specs.Message.{message, wholeLength, Written}
-use Rattle.protocol.specs.declared.Edition.{Edition}
+use Rattle.opmsg.specs.declared.Edition.{Edition}
 
 -- header, flag word, kind 0, body, and checksum by bit 0
 unfoldable pub written : (requestId responseTo : ℤ) → (flags : ℕ) → List ℕ → List ℕ

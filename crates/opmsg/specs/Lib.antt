@@ -1,1 +1,8 @@
+pub mod Flags
+pub mod Layout
+pub mod Sections
+pub mod Names
+pub mod View
+pub mod Read
 pub mod Answers
+pub mod Ping

@@ -1,30 +1,23 @@
-// Forwarding a message.
-use answers::refusal;
-use forwarding::forwarded;
-use opmsg::read;
-use protocol::Edition;
-use protocol::Reading;
-use protocol::Verdict;
-ghost use mathlib.Core.Path.{_≡_};
-ghost use lib.ListN.{length};
-ghost use Rattle.protocol.specs.View.{answer};
-ghost use Rattle.message.specs.Message.{viewed, output};
-ghost use Rattle.message.specs.Forward.{forward};
-
-// Forwards the message at the start of s: its bytes with the flag word that is shown, and the checksum worked out anew.
-pub fn forward(e: Edition, s: &[u8], out: &mut [u8]) -> Reading
-    ensures shows { λ r. ⌜ r ≡ answer (viewed (forward e (now (s .entry)) (length (now (out .entry))))) ⌝ }
-    ensures writes { λ _. ⌜ now (out .exit) ≡ output (forward e (now (s .entry)) (length (now (out .entry)))) (now (out .entry)) ⌝ }
-{
-    let r = read(e, s);
-    let verdict = r.verdict;
-    if let Verdict::Refused { number, place } = verdict {
-        return refusal(number, place);
-    }
-    let size = r.view.length as usize;
-    if out.len() < size {
-        return refusal(25, 0);
-    }
-    forwarded(out, s, size, r.view.flags);
-    r
-}
+// The front door: every call, type and limit that a caller needs, each with its promise.
+pub use bson::MAX_LEVELS;
+pub use bson_elements::MAX_ELEMENTS;
+pub use listing::Step;
+pub use listing::stream::next;
+pub use listing_buffer::to_front;
+pub use listing_lines::Summary;
+pub use listing_lines::bad_line;
+pub use listing_lines::end_line;
+pub use listing_lines::first_line;
+pub use listing_lines::message_line;
+pub use message_append::append;
+pub use message_forward::forward;
+pub use message_write::write;
+pub use opmsg::Edition;
+pub use opmsg::Reading;
+pub use opmsg::Sequence;
+pub use opmsg::Verdict;
+pub use opmsg::View;
+pub use opmsg::house;
+pub use opmsg_header::MAX_LENGTH;
+pub use opmsg_read::read;
+pub use opmsg_sequences::MAX_SEQUENCES;

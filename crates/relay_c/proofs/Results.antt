@@ -9,19 +9,19 @@ use lib.IntN.{ℤ}
 use mir.Syntax.{w32}
 use mir.Val.{SFits}
 use Rattle.wire.specs.Outcome.{Outcome, ok, refused, _>>=_}
-use Rattle.protocol.specs.View.{answer}
-use Rattle.protocol.specs.Answers.{judged}
-use Rattle.protocol.specs.declared.Edition.{Edition}
-use Rattle.protocol.specs.declared.Verdict.{Verdict}
-use Rattle.protocol.specs.declared.Verdict.the-variants.{Accepted, Refused}
-use Rattle.protocol.specs.declared.Reading.{Reading}
+use Rattle.opmsg.specs.View.{answer}
+use Rattle.opmsg.specs.Answers.{judged}
+use Rattle.opmsg.specs.declared.Edition.{Edition}
+use Rattle.opmsg.specs.declared.Verdict.{Verdict}
+use Rattle.opmsg.specs.declared.Verdict.the-variants.{Accepted, Refused}
+use Rattle.opmsg.specs.declared.Reading.{Reading}
 use Rattle.message.specs.Message.{Written, viewed, output}
 use Rattle.message.specs.Write.{write}
-use Rattle.writing.specs.Answers as writing
-use Rattle.appending.specs.Decided.{Decided}
-use Rattle.numbers.specs.Numbers.{viewNumbers, viewSize}
-use Rattle.interface.specs.Interface.{outcome, withRoom, result, numbers}
-use Rattle.interface.proofs.Room.{outcome-answer, own-refusal, no-room, has-room}
+use Rattle.message_write.specs.Answers as writing
+use Rattle.message_append.specs.Decided.{Decided}
+use Rattle.relay_c_results.specs.Numbers.{viewNumbers, viewSize}
+use Rattle.relay_c_results.specs.Interface.{outcome, withRoom, result, numbers}
+use Rattle.relay_c_results.proofs.Room.{outcome-answer, own-refusal, no-room, has-room}
 
 -- its result, the output, and the numbers of the view
 abbrev Promised : ℕ → Outcome Written → (code : ℕ) → (old out : List ℕ) → (view shown : List ℤ) → Type 0

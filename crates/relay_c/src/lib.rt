@@ -1,27 +1,27 @@
 // The calls of the library for C and Rust: numbers and slices only. host/relay.h is their manual.
-use forwarding::forwarded;
-use interface::NUMBERS;
-use interface::answered;
-use interface::edition;
-use interface::refusal;
-use interface::without_view;
-use numbers::show;
-use protocol::Verdict;
+use message_forward_store::forwarded;
+use opmsg::Verdict;
+use relay_c_results::NUMBERS;
+use relay_c_results::answered;
+use relay_c_results::edition;
+use relay_c_results::numbers::show;
+use relay_c_results::refusal;
+use relay_c_results::without_view;
 ghost use mathlib.Core.Path.{_≡_};
 ghost use lib.ListN.{length};
-ghost use Rattle.protocol.specs.Read.{read};
+ghost use Rattle.opmsg.specs.Read.{read};
 ghost use Rattle.message.specs.Message.{viewed, output};
 ghost use Rattle.message.specs.Forward.{forward};
 ghost use Rattle.message.specs.Write.{write};
 ghost use Rattle.message.specs.Append.{append};
-ghost use Rattle.interface.specs.Interface.{editionOf, withRoom, result, numbers};
+ghost use Rattle.relay_c_results.specs.Interface.{editionOf, withRoom, result, numbers};
 
 #[no_mangle]
 pub extern "C" fn relay_read(bits: u32, sequences: u8, message: &[u8], view: &mut [i64]) -> u64
     ensures answers { λ r. ⌜ r ≡ result (withRoom (length (now (view .entry))) (read (editionOf bits sequences) (now (message .entry)))) ⌝ }
     ensures shows { λ _. ⌜ now (view .exit) ≡ numbers (withRoom (length (now (view .entry))) (read (editionOf bits sequences) (now (message .entry)))) (now (view .entry)) ⌝ }
 {
-    answered(opmsg::read(edition(bits, sequences), message), view)
+    answered(opmsg_read::read(edition(bits, sequences), message), view)
 }
 
 #[no_mangle]
@@ -36,7 +36,7 @@ pub extern "C" fn relay_forward(
     ensures writes { λ _. ⌜ now (out .exit) ≡ output (withRoom (length (now (view .entry))) (forward (editionOf bits sequences) (now (message .entry)) (length (now (out .entry))))) (now (out .entry)) ⌝ }
     ensures shows { λ _. ⌜ now (view .exit) ≡ numbers (viewed (withRoom (length (now (view .entry))) (forward (editionOf bits sequences) (now (message .entry)) (length (now (out .entry)))))) (now (view .entry)) ⌝ }
 {
-    let r = opmsg::read(edition(bits, sequences), message);
+    let r = opmsg_read::read(edition(bits, sequences), message);
     let verdict = r.verdict;
     if let Verdict::Refused { number, place } = verdict {
         return refusal(number, place);
@@ -71,10 +71,10 @@ pub extern "C" fn relay_write(
 {
     let e = edition(bits, sequences);
     if view.len() < NUMBERS {
-        return without_view(writing::check(e, flags, body, out.len()));
+        return without_view(message_write::check(e, flags, body, out.len()));
     }
     answered(
-        writing::write(e, request_id, response_to, flags, body, out),
+        message_write::write(e, request_id, response_to, flags, body, out),
         view,
     )
 }
@@ -95,10 +95,10 @@ pub extern "C" fn relay_append(
 {
     let e = edition(bits, sequences);
     if view.len() < NUMBERS {
-        return without_view(appending::check(e, message, identifier, documents, out.len()));
+        return without_view(message_append::check(e, message, identifier, documents, out.len()));
     }
     answered(
-        appending::append(e, message, identifier, documents, out),
+        message_append::append(e, message, identifier, documents, out),
         view,
     )
 }

@@ -1,7 +1,7 @@
 -- What holds between two turns of the listing.
 -- Assumes nothing: these are definitions.
 use Prim.Native.Nat.{ℕ, _*_, _^_, _≤_}
-use Rattle.protocol.specs.Layout.{maxLength}
+use Rattle.opmsg.specs.Layout.{maxLength}
 use Rattle.relay_log.specs.declared.Run.{Run}
 
 -- the length of the buffer

@@ -1,20 +1,13 @@
 // Document 01's trials T1 to T14, run through the code: each answer is written as a line, and below it the message where one is written.
-use appending::append;
-use opmsg::read;
-use protocol::Edition;
-use protocol::Reading;
-use protocol::Verdict;
-use protocol::View;
+use relay::Reading;
+use relay::Verdict;
+use relay::View;
+use relay::append;
 use relay::forward;
+use relay::house;
+use relay::read;
 ghost use mathlib.Core.Path.{_≡_};
 ghost use lib.ListN.{length};
-
-fn house() -> Edition {
-    Edition {
-        bits: 0x1_0003,
-        sequences: true,
-    }
-}
 
 fn number(n: u32) {
     io::write_all(1, b"\t");
@@ -49,9 +42,11 @@ fn line(name: &[u8], r: Reading) {
     io::write_all(1, b"\n");
 }
 
-// A trial that reads a message.
-fn reads(name: &[u8], message: &[u8]) {
-    line(name, read(house(), message));
+// A trial that reads the first n bytes of a message.
+fn reads(name: &[u8], message: &[u8], n: usize) {
+    if n <= message.len() {
+        line(name, read(house(), &message[..n]));
+    }
 }
 
 fn byte(b: u8) {
@@ -68,9 +63,9 @@ fn hex(s: &[u8]) {
     io::write_all(1, b"\n");
 }
 
-// A trial that reads a message as long as PING.
-fn whole(name: &[u8], message: &[u8; 36]) {
-    reads(name, message);
+// The same of a message as long as PING.
+fn first(name: &[u8], message: &[u8; 36], n: usize) {
+    reads(name, message, n);
 }
 
 fn ping() -> [u8; 36]
@@ -85,21 +80,20 @@ fn changed(name: &[u8], at: usize, b: u8) {
     if at < 36 {
         message[at] = b;
     }
-    whole(name, &message);
+    first(name, &message, 36);
 }
 
 fn lengths() {
-    let message = ping();
-    whole(b"T1", &message);
-    reads(b"T2", b"");
-    reads(
-        b"T3",
-        b"\xFF\xFF\xFF\xFF\x07\x00\x00\x00\x00\x00\x00\x00\xDD\x07\x00\x00\x00\x00\x00\x00\x00\x0F\x00\x00\x00\x10ping\x00\x01\x00\x00\x00\x00",
-    );
-    reads(
-        b"T4",
-        b"\x24\x00\x00\x00\x07\x00\x00\x00\x00\x00\x00\x00\xDD\x07\x00\x00\x00\x00\x00\x00\x00\x0F\x00\x00\x00\x10ping\x00\x01\x00\x00\x00",
-    );
+    let mut message = ping();
+    first(b"T1", &message, 36);
+    first(b"T2", &message, 0);
+    message[0] = 0xFF;
+    message[1] = 0xFF;
+    message[2] = 0xFF;
+    message[3] = 0xFF;
+    first(b"T3", &message, 36);
+    message = ping();
+    first(b"T4", &message, 35);
 }
 
 fn opcodes_and_flags() {
@@ -117,10 +111,9 @@ fn forwarding() {
 }
 
 fn sections() {
-    reads(
-        b"T9",
-        b"\x14\x00\x00\x00\x07\x00\x00\x00\x00\x00\x00\x00\xDD\x07\x00\x00\x00\x00\x00\x00",
-    );
+    let mut message = ping();
+    message[0] = 20;
+    first(b"T9", &message, 20);
     changed(b"T10", 20, 2);
 }
 
@@ -132,11 +125,9 @@ fn appending() {
         append(house(), &message, b"d", b"\x05\0\0\0\0", &mut out),
     );
     hex(&out);
-    let bodies = Edition {
-        bits: 0x1_0003,
-        sequences: false,
-    };
-    line(b"T12", read(bodies, &out));
+    let mut bodies_only = house();
+    bodies_only.sequences = false;
+    line(b"T12", read(bodies_only, &out));
 }
 
 fn clashing() {
@@ -149,6 +140,7 @@ fn names() {
     reads(
         b"T14",
         b"\x2E\x00\x00\x00\x07\x00\x00\x00\x00\x00\x00\x00\xDD\x07\x00\x00\x00\x00\x00\x00\x00\x19\x00\x00\x00\x10ping\x00\x01\x00\x00\x00\x10ping\x00\x01\x00\x00\x00\x00",
+        46,
     );
 }
 

@@ -10,7 +10,11 @@ static void field(const char *name, size_t offset)
 
 int main(void)
 {
-    printf("max_message %d\n", RELAY_MAX_MESSAGE);
+    printf("version %s\n", RELAY_VERSION);
+    printf("max_length %d\n", RELAY_MAX_LENGTH);
+    printf("max_elements %d\n", RELAY_MAX_ELEMENTS);
+    printf("max_levels %d\n", RELAY_MAX_LEVELS);
+    printf("max_sequences %d\n", RELAY_MAX_SEQUENCES);
     printf("house_bits %lu\n", (unsigned long)RELAY_HOUSE_BITS);
     printf("view_numbers %d\n", (int)(sizeof(struct relay_view) / sizeof(int64_t)));
     field("length", offsetof(struct relay_view, length));

@@ -3,7 +3,7 @@
 use lib.ListN.{length}
 use borrow.Author.Needs.{needs}
 use Rattle.message.specs.Append.{append}
-use Rattle.numbers.specs.Numbers.{viewSize}
+use Rattle.relay_c_results.specs.Numbers.{viewSize}
 use Rattle.relay_c.proofs.Results.{short, told}
 use Rattle.relay_c.proofs.relay_append.Statement.{statement}
 use Rattle.relay_c.proofs.relay_append.Tie as tie

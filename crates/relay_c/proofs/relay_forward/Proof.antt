@@ -4,12 +4,12 @@ use mathlib.Core.Path.{_≡_, refl}
 use lib.ListN.{length}
 use borrow.Author.Needs.{needs}
 use Rattle.wire.specs.Outcome.{ok}
-use Rattle.protocol.specs.Read.{read}
-use Rattle.protocol.proofs.Answered.{answer-refused, answer-accepted}
+use Rattle.opmsg.specs.Read.{read}
+use Rattle.opmsg.proofs.Answered.{answer-refused, answer-accepted}
 use Rattle.message.specs.Forward.{forwarded, forward}
 use Rattle.message.proofs.Forwarding.{forward-refused, forward-short, forward-fits}
-use Rattle.numbers.specs.Numbers.{viewSize}
-use Rattle.interface.proofs.Room.{own-refusal, no-room, has-room}
+use Rattle.relay_c_results.specs.Numbers.{viewSize}
+use Rattle.relay_c_results.proofs.Room.{own-refusal, no-room, has-room}
 use Rattle.relay_c.proofs.Results.{refused-leaves, accepted-leaves}
 use Rattle.relay_c.proofs.relay_forward.Statement.{statement}
 use Rattle.relay_c.proofs.relay_forward.Tie as tie

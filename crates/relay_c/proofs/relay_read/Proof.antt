@@ -2,8 +2,8 @@
 -- Assumes nothing.
 use mathlib.Core.Path.{ap, _∙_}
 use borrow.Author.Needs.{needs}
-use Rattle.interface.specs.Interface.{outcome}
-use Rattle.interface.proofs.Room.{outcome-answer}
+use Rattle.relay_c_results.specs.Interface.{outcome}
+use Rattle.relay_c_results.proofs.Room.{outcome-answer}
 use Rattle.relay_c.proofs.relay_read.Statement.{statement}
 use Rattle.relay_c.proofs.relay_read.Tie as tie
 

@@ -4,7 +4,7 @@ use lib.ListN.{length}
 use mir.Facts.{toZ-ofZ}
 use borrow.Author.Needs.{needs}
 use Rattle.message.specs.Write.{write}
-use Rattle.numbers.specs.Numbers.{viewSize}
+use Rattle.relay_c_results.specs.Numbers.{viewSize}
 use Rattle.relay_c.proofs.Results.{short, decided, told}
 use Rattle.relay_c.proofs.relay_write.Statement.{statement}
 use Rattle.relay_c.proofs.relay_write.Tie as tie

@@ -9,10 +9,10 @@ use Rattle.relay_log.proofs.list.Statement.{statement}
 use Rattle.relay_log.proofs.list.Tie as tie
 
 abbrev Inv-loop : tie.InvT-loop
-Inv-loop buf₀ run₀ left₀ buf run left = Held run × (bufferLength ≡ length buf) × (run .messages + left ≤ turns)
+Inv-loop fd buf₀ run₀ left₀ buf run left = Held run × (bufferLength ≡ length buf) × (run .messages + left ≤ turns)
 
 abbrev μ-loop : tie.MeasureT-loop
-μ-loop buf₀ run₀ left₀ buf run left = left
+μ-loop fd buf₀ run₀ left₀ buf run left = left
 
 pub list-spec : {M : Type 1} → statement M
 list-spec =

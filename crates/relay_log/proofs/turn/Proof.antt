@@ -7,7 +7,7 @@ use native.Mathlib.Omega.{arith}
 use lib.ListN.{length, take, drop, length-drop}
 use lib.Seq.{length-take-le}
 use borrow.Author.Needs.{needs}
-use Rattle.protocol.specs.Layout.{maxLength}
+use Rattle.opmsg.specs.Layout.{maxLength}
 use Rattle.relay_log.specs.Held.{bufferLength, Held}
 use Rattle.relay_log.specs.declared.Run.{Run}
 use Rattle.relay_log.proofs.turn.Statement.{statement}

@@ -16,9 +16,9 @@ use Rattle.wire.specs.Walk.{step, walk}
 use Rattle.wire.proofs.Outcome.{go-on, halt}
 use Rattle.wire.proofs.Parts.{rest-part}
 use Rattle.wire.proofs.Walk.{ends, goes-on, stops}
-use Rattle.elements.specs.Element.{inside, element}
+use Rattle.bson_elements.specs.Element.{inside, element}
 use Rattle.bson.specs.Document.{told, documentAt}
-use Rattle.elements.specs.Answers.{outline}
+use Rattle.bson_elements.specs.Answers.{outline}
 use Rattle.bson.proofs.Levels.{document-past, few, no-level, shut, opens}
 use Rattle.bson.proofs.documents.document_at.Reads as document-at
 use Rattle.bson.proofs.documents.document_at.Kinds as document-at-kinds
@@ -27,7 +27,7 @@ use Rattle.bson.proofs.documents.element.Reads as element-reads
 use Rattle.bson.proofs.documents.element.Kinds as element-kinds
 use Rattle.bson.proofs.documents.+document_at+element.Lts-element as element-lts
 use Rattle.bson.proofs.documents.frame.Reads as frame-reads
-use Rattle.elements.proofs.head.Reads as head-reads
+use Rattle.bson_elements.proofs.head.Reads as head-reads
 use Rattle.bson.proofs.documents.refused.Reads as refused-reads
 use Rattle.bson.proofs.documents.+document_at+element.{statement}
 use Rattle.bson.proofs.documents.+document_at+element.Tie.{close}

@@ -3,8 +3,9 @@
 use mir.Syntax.{w32}
 use mir.Facts.{toZ-ofZ}
 use borrow.Author.Needs.{needs}
-use Rattle.protocol.specs.Read.{read}
-use Rattle.listing.specs.Next.{house, stepOf}
+use Rattle.opmsg.specs.Flags.{house}
+use Rattle.opmsg.specs.Read.{read}
+use Rattle.listing.specs.Next.{stepOf}
 use Rattle.listing.proofs.Next.{refused-reading, accepted-reading, within-bytes}
 use Rattle.listing.proofs.stream.judge.Statement.{statement}
 use Rattle.listing.proofs.stream.judge.Tie as tie
@@ -13,24 +14,28 @@ returns : tie.Need-returns
 unfolding stepOf
 returns c =
     let p3 = c .before .before .before in
-    (rw (refused-reading (read house (p3 .before .before .args .s .now)) (p3 .read .result) _ _ (p3 .read .ensures) (c .before .verdict .given .1)), tt)
+    let start = p3 .before .before .before in
+    let is = rw (p3 .before .house .ensures) at (p3 .read .ensures) in
+    (rw (refused-reading (read house (start .args .s .now)) (p3 .read .result) _ _ is (c .before .verdict .given .1)), tt)
 
 returns-2 : tie.Need-returns-2
 unfolding stepOf
 returns-2 c =
     let p2 = c .before .before in
     let p4 = p2 .before .before in
-    let p6 = p4 .before .before in
-    let a = accepted-reading (read house (p6 .args .s .now)) (p4 .read .result) (p4 .read .ensures) (p2 .enum-told .given .1) in
+    let start = p4 .before .before .before in
     let v = p4 .read .result .view in
+    let is = rw (p4 .before .house .ensures) at (p4 .read .ensures) in
+    let a = accepted-reading (read house (start .args .s .now)) (p4 .read .result) is (p2 .enum-told .given .1) in
     let first = toZ-ofZ {w = w32} {z = v .«request_id»} (record { sfits = c .struct-told .given .1 .0 .1 }) in
     let second = toZ-ofZ {w = w32} {z = v .«response_to»} (record { sfits = c .struct-told .given .1 .1 .0 .1 }) in
-    (rw (a, first, second), within-bytes house (p6 .args .s .now) (p4 .read .result .view) a)
+    (rw (a, first, second), within-bytes house (start .args .s .now) v a)
 
 pub judge-spec : {M : Type 1} → statement M
 judge-spec =
     tie.close
     (tie.spec
+    (λ c κs. search needs)
     (λ c κs. search needs)
     (λ c. search needs)
     returns

@@ -3,7 +3,7 @@
 use borrow.Author.Needs.{needs}
 use borrow.Author.Tests.{lt-ltb, le-ltb, le-leb, lt-leb}
 use Rattle.wire.specs.Bytes.{wordAt}
-use Rattle.protocol.specs.Layout.{maxLength}
+use Rattle.opmsg.specs.Layout.{maxLength}
 use Rattle.listing.specs.Next.{short}
 use Rattle.listing.proofs.stream.short.Statement.{statement}
 use Rattle.listing.proofs.stream.short.Tie as tie

@@ -1,0 +1,70 @@
+// Elements, but for the documents in them.
+use bson_values::Found;
+use bson_values::Shape;
+use bson_values::kind_of;
+use bson_values::unlisted;
+use bson_values::value_of;
+use wire::until_zero;
+ghost use mathlib.Core.Path.{_≡_};
+ghost use Prim.Native.Nat.{ℕ, _+_, _^_, _<_, _≤_};
+ghost use lib.ListN.{length};
+ghost use Rattle.bson_values.specs.Answers.{shape, Inside};
+ghost use Rattle.bson_elements.specs.Element.{head};
+ghost use Rattle.bson_elements.specs.Answers.{outline, begins, Lies};
+
+// The most elements of a message.
+pub const MAX_ELEMENTS: u32 = 4096;
+
+// An element but for the documents in it: where its value starts, and what that is; or a refusal's number and place.
+pub enum Outline {
+    Plain {
+        start: usize,
+        size: usize,
+    },
+    Embedded {
+        start: usize,
+    },
+    Scoped {
+        start: usize,
+        from: usize,
+        size: usize,
+    },
+    Refused(u32, usize),
+}
+
+// An element whose value starts there, at that place of the message, and has that shape.
+fn outline_of(start: usize, place: usize, value: Shape) -> Outline
+    ensures is { λ r. ⌜ outline r ≡ begins start (shape place value) ⌝ }
+    ensures inside { λ r. ⌜ ((n : ℕ) → 2 ≤ start → Inside n value → Lies (start + n) r) ⌝ }
+{
+    match value {
+        Shape::Plain(size) => Outline::Plain { start, size },
+        Shape::Embedded => Outline::Embedded { start },
+        Shape::Scoped { start: from, size } => Outline::Scoped { start, from, size },
+        Shape::Faulty => Outline::Refused(19, place),
+    }
+}
+
+// The type and the name of an element, and its value but for a document in it.
+pub fn head(s: &[u8], at: usize, count: u32) -> Outline
+    requires { ⌜ (0 < length (now s)) × (at + length (now s) < 2 ^ 64) ⌝ }
+    ensures is { λ r. ⌜ outline r ≡ head at (now (s .entry)) count ⌝ }
+    ensures inside { λ r. ⌜ Lies (length (now (s .entry))) r ⌝ }
+{
+    if count >= MAX_ELEMENTS {
+        return Outline::Refused(21, at);
+    }
+    let t = s[0];
+    if unlisted(t) {
+        return Outline::Refused(17, at);
+    }
+    let n = until_zero(&s[1..]);
+    if s.len() <= 1 + n {
+        return Outline::Refused(18, at + 1);
+    }
+    let start = n + 2;
+    let Found::Listed(kind) = kind_of(t) else {
+        return Outline::Refused(17, at);
+    };
+    outline_of(start, at + start, value_of(kind, &s[start..]))
+}

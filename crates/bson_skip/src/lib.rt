@@ -1,0 +1,64 @@
+// Elements that were read, passed over.
+use bson_values::Extent;
+use bson_values::Found;
+use bson_values::Kind;
+use bson_values::kind_of;
+use bson_values::regex;
+use wire::until_zero;
+use wire::word;
+ghost use mathlib.Core.Path.{_≡_};
+ghost use Prim.Native.Nat.{ℕ, _<_, _≤_};
+ghost use lib.ListN.{length};
+ghost use Rattle.wire.specs.Outcome.{ok};
+ghost use Rattle.bson_values.specs.Value.{Value};
+ghost use Rattle.bson_values.specs.Answers.{extent, ruleOf};
+ghost use Rattle.bson_elements.specs.Element.{elementSize};
+ghost use Rattle.bson_skip.specs.Answers.{span};
+
+// The bytes of something that keeps its rule.
+fn taken(e: Extent) -> usize
+    ensures { λ r. ⌜ ((v n : ℕ) → extent v e ≡ ok n → r ≡ n) ⌝ }
+{
+    match e {
+        Extent::Takes(n) => n,
+        Extent::Broken => 0,
+    }
+}
+
+// How many bytes a value of some kind takes, where it keeps its rule.
+fn skip(k: Kind, s: &[u8]) -> usize
+    ensures { λ r. ⌜ ((v : ℕ) (x : Value) → ruleOf k v (now (s .entry)) ≡ ok x → r ≡ span (now (s .entry)) x) ⌝ }
+{
+    match k {
+        Kind::Bytes(n) => n,
+        Kind::Boolean => 1,
+        Kind::String => 4 + word(s) as usize,
+        Kind::Binary => 5 + word(s) as usize,
+        Kind::Regex => taken(regex(s)),
+        Kind::Pointer => 16 + word(s) as usize,
+        Kind::Embedded => word(s) as usize,
+        Kind::Code => word(s) as usize,
+    }
+}
+
+// How many bytes the element at the start of s takes, which was read: by the lengths that it states, and nothing is checked again.
+pub fn element_size(s: &[u8]) -> usize
+    ensures { λ r. ⌜ (0 < elementSize (now (s .entry)) → elementSize (now (s .entry)) ≤ length (now (s .entry)) → r ≡ elementSize (now (s .entry))) ⌝ }
+{
+    if s.len() == 0 {
+        return 0;
+    }
+    let n = until_zero(&s[1..]);
+    if s.len() <= n + 1 {
+        return 0;
+    }
+    let start = n + 2;
+    let Found::Listed(kind) = kind_of(s[0]) else {
+        return 0;
+    };
+    let size = skip(kind, &s[start..]);
+    if s.len() - start < size {
+        return 0;
+    }
+    start + size
+}

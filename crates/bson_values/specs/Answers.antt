@@ -1,0 +1,53 @@
+-- What the answers of the functions stand for in document 01's terms, and how far they reach.
+-- Assumes nothing: these are definitions.
+use Prim.Native.Nat.{ℕ, _≤_}
+use mathlib.Core.Bool.{Bool, true, false}
+use mathlib.Core.Path.{_≡_}
+use Rattle.wire.specs.Outcome.{Outcome, ok, refused}
+use Rattle.bson_values.specs.Value.{Value, plain, embedded, scoped, sized, boolean, string, binary, regex, pointer, codeWithScope, bytes, Rule, table, ruleIn}
+use Rattle.bson_values.specs.declared.Extent.{Extent}
+use Rattle.bson_values.specs.declared.Shape.{Shape}
+use Rattle.bson_values.specs.declared.Kind.{Kind}
+use Rattle.bson_values.specs.declared.Found.{Found}
+
+-- a number of bytes of the value at place v, which lies within n bytes
+abbrev pub extent : (v : ℕ) → Extent → Outcome ℕ
+extent v (Extent.Takes n) = ok n
+extent v Extent.Broken = refused 19 v
+
+abbrev pub Within : (n : ℕ) → Extent → Type 0
+Within n (Extent.Takes m) = m ≤ n
+Within n Extent.Broken = Unit {0}
+
+-- the value at place v, which lies within n bytes
+abbrev pub shape : (v : ℕ) → Shape → Outcome Value
+shape v (Shape.Plain size) = ok (plain size)
+shape v Shape.Embedded = ok embedded
+shape v (Shape.Scoped start size) = ok (scoped start size)
+shape v Shape.Faulty = refused 19 v
+
+abbrev pub Inside : (n : ℕ) → Shape → Type 0
+Inside n (Shape.Plain size) = size ≤ n
+Inside n Shape.Embedded = Unit {0}
+Inside n (Shape.Scoped start size) = (start ≤ size) × (size ≤ n)
+Inside n Shape.Faulty = Unit {0}
+
+-- a row of the table, and that of a type at a place
+abbrev pub ruleOf : Kind → Rule
+ruleOf (Kind.Bytes n) v xs = bytes (sized v n xs)
+ruleOf Kind.Boolean v xs = bytes (boolean v xs)
+ruleOf Kind.String v xs = bytes (string v xs)
+ruleOf Kind.Binary v xs = bytes (binary v xs)
+ruleOf Kind.Regex v xs = bytes (regex v xs)
+ruleOf Kind.Pointer v xs = bytes (pointer v xs)
+ruleOf Kind.Embedded v xs = ok embedded
+ruleOf Kind.Code v xs = codeWithScope v xs
+
+abbrev pub listed : (at : ℕ) → Found → Outcome Rule
+listed at (Found.Listed k) = ok (ruleOf k)
+listed at Found.Unlisted = refused 17 at
+
+-- whether a type stands in no row
+abbrev pub Unlisted : (t : ℕ) → Bool → Type 0
+Unlisted t true = (at : ℕ) → ruleIn table at t ≡ refused 17 at
+Unlisted t false = (at : ℕ) → (rule : Rule) × (ruleIn table at t ≡ ok rule)

@@ -1,0 +1,253 @@
+// The element table: what stands after an element's name.
+use wire::under;
+use wire::until_zero;
+use wire::word;
+ghost use mathlib.Core.Path.{_≡_};
+ghost use Prim.Native.Nat.{ℕ, _<_};
+ghost use lib.ListN.{length};
+ghost use Rattle.bson_values.specs.Value.{sized, boolean, cstring, string, binary, regex, pointer, codeWithScope, bytes, table, ruleIn};
+ghost use Rattle.bson_values.specs.Answers.{extent, Within, shape, Inside, ruleOf, listed, Unlisted};
+
+// How many bytes something takes; or it breaks its rule.
+pub enum Extent {
+    Takes(usize),
+    Broken,
+}
+
+// A value: bytes alone; a document; bytes of which those from `start` on are a document; or it breaks its rule.
+pub enum Shape {
+    Plain(usize),
+    Embedded,
+    Scoped { start: usize, size: usize },
+    Faulty,
+}
+
+// The rows of the table.
+pub enum Kind {
+    Bytes(usize),
+    Boolean,
+    String,
+    Binary,
+    Regex,
+    Pointer,
+    Embedded,
+    Code,
+}
+
+// The row of a type, if it has one.
+pub enum Found {
+    Listed(Kind),
+    Unlisted,
+}
+
+// The type t stands in no row.
+pub fn unlisted(t: u8) -> bool
+    ensures { λ r. ⌜ Unlisted t r ⌝ }
+{
+    if t == 0 {
+        return true;
+    }
+    if t <= 0x13 {
+        return false;
+    }
+    if t == 0x7F {
+        return false;
+    }
+    if t == 0xFF {
+        return false;
+    }
+    true
+}
+
+// The row of a type above 0x13: the keys.
+fn key(t: u8) -> Found
+    ensures { λ r. ⌜ (0x13 < t → (at : ℕ) → listed at r ≡ ruleIn table at t) ⌝ }
+{
+    match t {
+        0x7F | 0xFF => Found::Listed(Kind::Bytes(0)),
+        _ => Found::Unlisted,
+    }
+}
+
+// The row in which the type t stands.
+pub fn kind_of(t: u8) -> Found
+    ensures { λ r. ⌜ ((at : ℕ) → listed at r ≡ ruleIn table at t) ⌝ }
+{
+    if 0x13 < t {
+        return key(t);
+    }
+    match t {
+        0x01 | 0x09 | 0x11 | 0x12 => Found::Listed(Kind::Bytes(8)),
+        0x10 => Found::Listed(Kind::Bytes(4)),
+        0x13 => Found::Listed(Kind::Bytes(16)),
+        0x07 => Found::Listed(Kind::Bytes(12)),
+        0x08 => Found::Listed(Kind::Boolean),
+        0x06 | 0x0A => Found::Listed(Kind::Bytes(0)),
+        0x02 | 0x0D | 0x0E => Found::Listed(Kind::String),
+        0x05 => Found::Listed(Kind::Binary),
+        0x0B => Found::Listed(Kind::Regex),
+        0x0C => Found::Listed(Kind::Pointer),
+        0x03 | 0x04 => Found::Listed(Kind::Embedded),
+        0x0F => Found::Listed(Kind::Code),
+        _ => Found::Unlisted,
+    }
+}
+
+// n bytes, whatever they are.
+fn sized(n: usize, s: &[u8]) -> Extent
+    ensures is { λ r. ⌜ ((v : ℕ) → extent v r ≡ sized v n (now (s .entry))) ⌝ }
+    ensures inside { λ r. ⌜ Within (length (now (s .entry))) r ⌝ }
+{
+    if s.len() < n {
+        return Extent::Broken;
+    }
+    Extent::Takes(n)
+}
+
+// One byte, 0 or 1.
+fn boolean(s: &[u8]) -> Extent
+    ensures is { λ r. ⌜ ((v : ℕ) → extent v r ≡ boolean v (now (s .entry))) ⌝ }
+    ensures inside { λ r. ⌜ Within (length (now (s .entry))) r ⌝ }
+{
+    if s.len() < 1 {
+        return Extent::Broken;
+    }
+    if 1 < s[0] {
+        return Extent::Broken;
+    }
+    Extent::Takes(1)
+}
+
+// A zero-ended string.
+fn cstring(s: &[u8]) -> Extent
+    ensures is { λ r. ⌜ ((v : ℕ) → extent v r ≡ cstring v (now (s .entry))) ⌝ }
+    ensures inside { λ r. ⌜ Within (length (now (s .entry))) r ⌝ }
+{
+    let n = until_zero(s);
+    if s.len() <= n {
+        return Extent::Broken;
+    }
+    Extent::Takes(n + 1)
+}
+
+// A string: a signed length n of at least 1, then n bytes, the last zero.
+fn string(s: &[u8]) -> Extent
+    ensures is { λ r. ⌜ ((v : ℕ) → extent v r ≡ string v (now (s .entry))) ⌝ }
+    ensures inside { λ r. ⌜ Within (length (now (s .entry))) r ⌝ }
+{
+    if s.len() < 4 {
+        return Extent::Broken;
+    }
+    let w = word(s);
+    if under(1, w) {
+        return Extent::Broken;
+    }
+    let n = w as usize;
+    if s.len() < 4 + n {
+        return Extent::Broken;
+    }
+    if s[3 + n] != 0 {
+        return Extent::Broken;
+    }
+    Extent::Takes(4 + n)
+}
+
+// A binary: a signed length n, a subtype byte, n bytes.
+fn binary(s: &[u8]) -> Extent
+    ensures is { λ r. ⌜ ((v : ℕ) → extent v r ≡ binary v (now (s .entry))) ⌝ }
+    ensures inside { λ r. ⌜ Within (length (now (s .entry))) r ⌝ }
+{
+    if s.len() < 4 {
+        return Extent::Broken;
+    }
+    let w = word(s);
+    if under(0, w) {
+        return Extent::Broken;
+    }
+    let n = w as usize;
+    if s.len() < 5 + n {
+        return Extent::Broken;
+    }
+    Extent::Takes(5 + n)
+}
+
+// Two zero-ended strings.
+pub fn regex(s: &[u8]) -> Extent
+    ensures is { λ r. ⌜ ((v : ℕ) → extent v r ≡ regex v (now (s .entry))) ⌝ }
+    ensures inside { λ r. ⌜ Within (length (now (s .entry))) r ⌝ }
+{
+    let Extent::Takes(m) = cstring(s) else {
+        return Extent::Broken;
+    };
+    let Extent::Takes(n) = cstring(&s[m..]) else {
+        return Extent::Broken;
+    };
+    Extent::Takes(m + n)
+}
+
+// A string, then 12 bytes.
+fn pointer(s: &[u8]) -> Extent
+    ensures is { λ r. ⌜ ((v : ℕ) → extent v r ≡ pointer v (now (s .entry))) ⌝ }
+    ensures inside { λ r. ⌜ Within (length (now (s .entry))) r ⌝ }
+{
+    let Extent::Takes(m) = string(s) else {
+        return Extent::Broken;
+    };
+    let Extent::Takes(n) = sized(12, &s[m..]) else {
+        return Extent::Broken;
+    };
+    Extent::Takes(m + n)
+}
+
+// A signed total of at least 14 counting itself, a string, and from there on a document.
+fn code_with_scope(s: &[u8]) -> Shape
+    ensures is { λ r. ⌜ ((v : ℕ) → shape v r ≡ codeWithScope v (now (s .entry))) ⌝ }
+    ensures inside { λ r. ⌜ Inside (length (now (s .entry))) r ⌝ }
+{
+    if s.len() < 4 {
+        return Shape::Faulty;
+    }
+    let w = word(s);
+    if under(14, w) {
+        return Shape::Faulty;
+    }
+    let t = w as usize;
+    if s.len() < t {
+        return Shape::Faulty;
+    }
+    let Extent::Takes(n) = string(&s[4..t]) else {
+        return Shape::Faulty;
+    };
+    Shape::Scoped {
+        start: 4 + n,
+        size: t,
+    }
+}
+
+// A value that is bytes alone.
+fn plain(e: Extent) -> Shape
+    ensures is { λ r. ⌜ ((v : ℕ) → shape v r ≡ bytes (extent v e)) ⌝ }
+    ensures inside { λ r. ⌜ ((n : ℕ) → Within n e → Inside n r) ⌝ }
+{
+    match e {
+        Extent::Takes(n) => Shape::Plain(n),
+        Extent::Broken => Shape::Faulty,
+    }
+}
+
+// A value of some kind, where s is what follows its name, up to the document's last byte.
+pub fn value_of(k: Kind, s: &[u8]) -> Shape
+    ensures is { λ r. ⌜ ((v : ℕ) → shape v r ≡ ruleOf k v (now (s .entry))) ⌝ }
+    ensures inside { λ r. ⌜ Inside (length (now (s .entry))) r ⌝ }
+{
+    match k {
+        Kind::Bytes(n) => plain(sized(n, s)),
+        Kind::Boolean => plain(boolean(s)),
+        Kind::String => plain(string(s)),
+        Kind::Binary => plain(binary(s)),
+        Kind::Regex => plain(regex(s)),
+        Kind::Pointer => plain(pointer(s)),
+        Kind::Embedded => Shape::Embedded,
+        Kind::Code => code_with_scope(s),
+    }
+}

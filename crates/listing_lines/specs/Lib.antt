@@ -1,0 +1,4 @@
+pub mod Decimal
+pub mod Fields
+pub mod Written
+pub mod Lines

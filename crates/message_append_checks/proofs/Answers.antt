@@ -1,0 +1,95 @@
+-- Append by the numbers that code keeps: what a reading tells of the message, and what is left to decide where only names are left to check.
+-- Assumes nothing.
+use Prim.Native.Nat.{ℕ, _+_, _-_, _^_, _<_, _≤_}
+use mathlib.Core.Bool.{Bool, true, false}
+use mathlib.Core.Path.{_≡_, sym, _∙_}
+use mathlib.Core.List.{List, _++_}
+use native.Mathlib.Omega.{arith}
+use lib.ListN.{length, take, drop}
+use Rattle.wire.specs.Outcome.{ok, refused}
+use Rattle.wire.specs.Walk.{walk}
+use Rattle.opmsg.specs.Layout.{checksumSize, sectionsEnd, sectionBytes}
+use Rattle.opmsg.specs.Sections.{Section, nextDocument}
+use Rattle.opmsg.specs.Names.{among, part, bodyNames, identifiers, texts}
+use Rattle.opmsg.specs.Read.{read}
+use Rattle.opmsg.specs.Answers.{Shows, Filled}
+use Rattle.opmsg.specs.declared.Edition.{Edition}
+use Rattle.opmsg.specs.declared.View.{View}
+use Rattle.opmsg.proofs.Limits.{maxLength-small, checksum-small}
+use Rattle.opmsg.proofs.Accepted.{reads}
+use Rattle.message.specs.Append.{sequenceBytes, appended, append}
+use Rattle.message.proofs.Message.{stated-end, stated-length}
+use Rattle.message.proofs.Forwarded.{view-length}
+use Rattle.message_append_checks.specs.Grown.{allowed, grown, Ready}
+use Rattle.message_append_checks.proofs.Held.{Held, accepted-held}
+use Rattle.message_append_checks.proofs.Appending.{Allowed, allows, end-is, shows, append-barred, append-documents, append-taken, append-grown}
+
+-- the checksum is in the message
+pub checksum-within : (e : Edition) (s : List ℕ) (v : View) → read e s ≡ ok v → checksumSize (v .flags) ≤ v .length
+checksum-within e s v h = omega (arith, checksum-small (v .flags), view-length e s v h, reads h .sound .least)
+
+-- a message that is read; `size` bytes are its checksum's
+module _ (e : Edition) (s : List ℕ) (v : View) (h : read e s ≡ ok v) (size : ℕ) (is : size ≡ checksumSize (v .flags)) where
+  end-of : v .length - size ≡ sectionsEnd s
+  end-of = rw is (end-is e s v h)
+
+  module _ (name documents : List ℕ) (room : ℕ) where
+    pub checks-refuse : {number place : ℕ} → allowed e (v .length - size) (v .«sequence_count») name (v .length + (length name + 6 + length documents)) room ≡ refused number place
+        → append e s name documents room ≡ refused number place
+    checks-refuse c = append-barred e s v h name documents room (rw end-of at c)
+
+    pub documents-refuse : {number place : ℕ} → allowed e (v .length - size) (v .«sequence_count») name (v .length + (length name + 6 + length documents)) room ≡ ok tt
+        → walk nextDocument (length documents) (v .length - size + (length name + 6)) documents (record { documents = 0; elements = v .elements }) ≡ refused number place
+        → append e s name documents room ≡ refused number place
+    documents-refuse c w = append-documents e s v h name documents room (rw end-of at c) (rw end-of at w)
+
+    pub documents-ready : {number elements : ℕ} → allowed e (v .length - size) (v .«sequence_count») name (v .length + (length name + 6 + length documents)) room ≡ ok tt
+        → walk nextDocument (length documents) (v .length - size + (length name + 6)) documents (record { documents = 0; elements = v .elements })
+        ≡ ok (record { documents = number; elements = elements })
+        → Ready e s name documents v (v .length - size) number elements room
+    documents-ready c w = record { ended = end-of; shown = h; passed = c; counted = w }
+
+module _ {e : Edition} {s name documents : List ℕ} {v : View} {end number elements room : ℕ} (k : Ready e s name documents v end number elements room) where
+  abbrev h : read e s ≡ ok v
+  h = k .shown
+
+  pub ready-allowed : Allowed e (v .«sequence_count») name (v .length + (length name + 6 + length documents)) room
+  ready-allowed = allows e end (v .«sequence_count») name (v .length + (length name + 6 + length documents)) room (k .passed)
+
+  pub ready-low : 20 ≤ end
+  ready-low = omega (arith, k .ended, stated-end s (reads h .sound))
+
+  pub ready-inside : end ≤ length s
+  ready-inside = omega (arith, k .ended, stated-end s (reads h .sound), stated-length s (reads h .sound), reads h .sound .whole)
+
+  pub ready-length : v .length ≡ end + checksumSize (v .flags)
+  ready-length = omega (arith, k .ended, end-is e s v h, checksum-within e s v h)
+
+  pub ready-small : v .length + (length name + 6 + length documents) < 2 ^ 30
+  ready-small = omega (arith, ready-allowed .limit, maxLength-small)
+
+  bytes : take (end - 20) (drop 20 s) ≡ sectionBytes s
+  unfolding sectionBytes
+  bytes = rw (k .ended)
+
+  held : Held (sectionBytes s) (length (sectionBytes s)) (reads h .sections .sections)
+  held = accepted-held e s v h
+
+  pub ready-filled : Filled (part (take (end - 20) (drop 20 s)) (v .body + 4) (v .«body_length» - 5))
+  ready-filled = rw bytes (rw (shows e s v h .start-is, shows e s v h .size-is) at (held .filled))
+
+  pub ready-body : v .body < 2 ^ 32
+  ready-body = omega (arith, held .inside, shows e s v h .start-is, stated-end s (reads h .sound), k .ended, ready-length, ready-small)
+
+  -- the answer of the search for the identifier
+  module _ (t : Bool) (is : (qs : List Section) → Shows qs (v .body) (v .«body_length») (v .sequences) (v .«sequence_count»)
+      → t ≡ among (texts (bodyNames (take (end - 20) (drop 20 s)) qs) ++ texts (identifiers (take (end - 20) (drop 20 s)) qs)) name) where
+    found : t ≡ among (texts (bodyNames (sectionBytes s) (reads h .sections .sections)) ++ texts (identifiers (sectionBytes s) (reads h .sections .sections))) name
+    found = rw bytes at (is (reads h .sections .sections) (shows e s v h))
+
+    pub ready-taken : t ≡ true → append e s name documents room ≡ refused 24 (end + 5)
+    ready-taken i = rw (k .ended) (append-taken e s v h name documents room (rw (k .ended) at (k .passed)) _ (rw (k .ended) at (k .counted)) (sym found ∙ i))
+
+    pub ready-grown : t ≡ false → append e s name documents room
+        ≡ ok (record { view = grown v end (length name) (length documents) number elements; bytes = appended s (v .flags) (take (end - 20) (drop 20 s) ++ sequenceBytes name documents) })
+    ready-grown i = rw (bytes, k .ended) (append-grown e s v h name documents room (rw (k .ended) at (k .passed)) _ (rw (k .ended) at (k .counted)) (sym found ∙ i))

@@ -1,0 +1,95 @@
+-- `message_append_checks::examine` meets its contract: the checks behind reading, the documents, and then the names.
+-- Assumes nothing.
+use Prim.Native.Nat.{_-_}
+use mathlib.Core.Path.{sym, ap, _∙_}
+use native.Mathlib.Omega.{arith}
+use borrow.Author.Needs.{needs}
+use Rattle.opmsg.specs.Sections.{maxSequences}
+use Rattle.opmsg.specs.Answers.{judged}
+use Rattle.opmsg.proofs.Limits.{maxLength-small}
+use Rattle.opmsg_documents.specs.Answers.{ran}
+use Rattle.message_append_checks.specs.Grown.{Ready}
+use Rattle.message_append_checks.proofs.Appending.{allows}
+use Rattle.message_append_checks.proofs.Answers.{checksum-within, checks-refuse, documents-refuse, documents-ready, ready-allowed, ready-low, ready-inside, ready-filled, ready-body, ready-taken, ready-grown}
+use Rattle.message_append_checks.proofs.examine.Statement.{statement}
+use Rattle.message_append_checks.proofs.examine.Tie as tie
+
+sub-end : tie.Need-sub-end
+sub-end c = omega (arith, c .before .checksum-size .ensures, checksum-within _ _ _ (c .before .before .before .before .before .pre))
+
+returns : tie.Need-returns
+returns c =
+    let p3 = c .before .before .before in
+    let p5 = p3 .before .before in
+    let p9 = p5 .before .before .before .before in
+    checks-refuse _ _ _ (p9 .pre) _ (p5 .checksum-size .ensures) (p9 .args .identifier .now) (p9 .args .documents .now) (p9 .args .room) (sym (p3 .checks .ensures) ∙ ap judged (c .before .passed .given .1))
+
+cast-documents : tie.Need-cast-documents
+cast-documents c =
+    let a = allows _ _ _ _ _ _ (sym (c .before .before .checks .ensures) ∙ ap judged (c .enum-told .given .1)) in
+    omega (arith, a .limit, maxLength-small)
+
+documents-requires : tie.Need-documents-requires
+documents-requires c κs =
+    let a = allows _ _ _ _ _ _ (sym (c .before .before .checks .ensures) ∙ ap judged (c .enum-told .given .1)) in
+    omega (arith, a .limit, maxLength-small)
+
+-- the checks are passed and the documents are counted: only names are left to check
+ready : (q : tie.After-number) →
+    let d = q .before .before in
+    let m = d .before .before .before .before .before in
+    let a = m .before .before .before .before in
+    Ready (a .args .e) (a .args .s .now) (a .args .identifier .now) (a .args .documents .now) (a .args .v) (a .args .v .length - m .checksum-size .result) (q .number .given .0 .0) (q .number .given .0 .1 .0) (a .args .room)
+ready q =
+    let d = q .before .before in
+    let t = d .before in
+    let k = t .before .before in
+    let m = k .before .before in
+    let a = m .before .before .before .before in
+    documents-ready _ _ _ (a .pre) _ (m .checksum-size .ensures) (a .args .identifier .now) (a .args .documents .now) (a .args .room) (sym (k .checks .ensures) ∙ ap judged (t .enum-told .given .1)) (sym (d .documents .ensures _ (omega arith)) ∙ ap ran (q .number .given .1))
+
+repeated-requires : tie.Need-repeated-requires
+unfolding maxSequences
+repeated-requires c κs =
+    let k = ready (c .before) in
+    (ready-low k, ready-inside k, omega (arith, ready-allowed k .few), ready-body k, ready-filled k)
+
+returns-2 : tie.Need-returns-2
+returns-2 c = ready-taken (ready (c .before .before .before)) (c .before .repeated .result) (c .before .repeated .ensures) (c .if1 .taken)
+
+returns-3 : tie.Need-returns-3
+returns-3 c =
+    let k = ready (c .before .before .before) in
+    (k, ready-grown k (c .before .repeated .result) (c .before .repeated .ensures) (c .if1 .left))
+
+returns-4 : tie.Need-returns-4
+returns-4 c =
+    let p3 = c .before .before .before in
+    let p4 = p3 .before in
+    let p6 = p4 .before .before in
+    let p8 = p6 .before .before in
+    let p12 = p8 .before .before .before .before in
+    documents-refuse _ _ _ (p12 .pre) _ (p8 .checksum-size .ensures) (p12 .args .identifier .now) (p12 .args .documents .now) (p12 .args .room) (sym (p6 .checks .ensures) ∙ ap judged (p4 .enum-told .given .1)) (sym (p3 .documents .ensures _ (omega arith)) ∙ ap ran (c .before .number2 .given .1))
+
+pub examine-spec : {M : Type 1} → statement M
+examine-spec =
+    tie.close
+    (tie.spec
+    (λ c κs. search needs)
+    sub-end
+    (λ c. search needs)
+    (λ c κs. search needs)
+    (λ c. search needs)
+    returns
+    (λ c. search needs)
+    (λ c. search needs)
+    (λ c. search needs)
+    cast-documents
+    documents-requires
+    (λ c. search needs)
+    repeated-requires
+    (λ c. search needs)
+    returns-2
+    (λ c. search needs)
+    returns-3
+    returns-4)

@@ -1,0 +1,54 @@
+-- What an append checks behind reading, and what its view shows.
+-- Assumes nothing: these are definitions.
+use Prim.Native.Nat.{ℕ, _+_}
+use mathlib.Core.Bool.{not}
+use mathlib.Core.List.{List}
+use mathlib.Core.Path.{_≡_}
+use lib.ListN.{length, set}
+use lib.Dec.{ltb, leb, eqb}
+use Rattle.wire.specs.Outcome.{Outcome, ok, refuse, _>>=_}
+use Rattle.wire.specs.Bytes.{untilZero}
+use Rattle.wire.specs.Walk.{walk}
+use Rattle.opmsg.specs.Flags.{knows}
+use Rattle.opmsg.specs.Layout.{maxLength, sectionsEnd}
+use Rattle.opmsg.specs.Sections.{maxSequences, nextDocument}
+use Rattle.opmsg.specs.Read.{read}
+use Rattle.opmsg.specs.declared.Edition.{Edition}
+use Rattle.opmsg.specs.declared.Sequence.{Sequence}
+use Rattle.opmsg.specs.declared.View.{View}
+
+-- the checks between reading the message and reading the new one, which has `whole` bytes; the sections end at a place, and `count` sequences are there
+unfoldable pub allowed : Edition → (end count : ℕ) → (identifier : List ℕ) → (whole room : ℕ) → Outcome (Unit {0})
+allowed e end count identifier whole room = do
+  _ ← refuse 10 end (not (knows e 1))
+  _ ← refuse 14 end (leb maxSequences count)
+  _ ← refuse 13 (end + 5) (eqb (length identifier) 0)
+  _ ← refuse 13 (end + 5) (ltb (untilZero identifier) (length identifier))
+  _ ← refuse 2 0 (ltb maxLength whole)
+  refuse 25 0 (ltb room whole)
+
+-- the new sequence: its kind byte is at a place, its identifier has n bytes and its documents d
+unfoldable pub entry : (at n d documents : ℕ) → Sequence
+entry at n d documents = record { name = at + 5; «name_length» = n; start = at + (n + 6); end = at + (1 + (n + 5 + d)); documents = documents }
+
+-- the view with that sequence behind the others
+unfoldable pub grown : View → (at n d documents elements : ℕ) → View
+grown v at n d documents elements = record {
+  length = v .length + (n + 6 + d);
+  «request_id» = v .«request_id»;
+  «response_to» = v .«response_to»;
+  flags = v .flags;
+  body = v .body;
+  «body_length» = v .«body_length»;
+  «sequence_count» = v .«sequence_count» + 1;
+  sequences = set (v .sequences) (v .«sequence_count») (entry at n d documents);
+  elements = elements;
+}
+
+-- what is known where only names are left to check: the message is read, the checks are passed, and the documents are counted
+pub record Ready (e : Edition) (s identifier documents : List ℕ) (v : View) (end number elements room : ℕ) : Type 0 where
+  pub ended : end ≡ sectionsEnd s
+  pub shown : read e s ≡ ok v
+  pub passed : allowed e end (v .«sequence_count») identifier (v .length + (length identifier + 6 + length documents)) room ≡ ok tt
+  pub counted : walk nextDocument (length documents) (end + (length identifier + 6)) documents (record { documents = 0; elements = v .elements })
+      ≡ ok (record { documents = number; elements = elements })

@@ -1,0 +1,100 @@
+// What an append decides before it writes.
+mod checks;
+
+use checks::checks;
+use opmsg::Edition;
+use opmsg::Verdict;
+use opmsg::View;
+use opmsg_documents::Run;
+use opmsg_flags::checksum_size;
+use opmsg_names::identifiers::taken;
+ghost use mathlib.Core.Path.{_≡_};
+ghost use mathlib.Core.List.{List, _++_};
+ghost use Prim.Native.Nat.{_+_, _-_, _^_, _<_, _≤_};
+ghost use lib.ListN.{length, take, drop};
+ghost use Rattle.opmsg.specs.Sections.{Section};
+ghost use Rattle.opmsg.specs.Names.{among, part, bodyNames, identifiers, texts};
+ghost use Rattle.opmsg.specs.Answers.{Shows, Filled};
+ghost use Rattle.wire.specs.Outcome.{ok};
+ghost use Rattle.opmsg.specs.Read.{read};
+ghost use Rattle.message_append_checks.specs.Examined.{Examined};
+
+// What an append finds of its parts: where the message's sections end, and the documents counted with all elements; or why it refuses.
+pub enum Found {
+    New {
+        end: usize,
+        documents: u32,
+        elements: u32,
+    },
+    Refused {
+        number: u32,
+        place: usize,
+    },
+}
+
+// The identifier is a name of the message, whose sections end at a place.
+fn repeated(s: &[u8], v: View, end: usize, identifier: &[u8]) -> bool
+    requires { ⌜ (20 ≤ end) × (end ≤ length (now s)) × (v .«sequence_count» ≤ 16) × (v .body < 2 ^ 32)
+        × Filled (part (take (end - 20) (drop 20 (now s))) (v .body + 4) (v .«body_length» - 5)) ⌝ }
+    ensures { λ r. ⌜ ((qs : List Section) → Shows qs (v .body) (v .«body_length») (v .sequences) (v .«sequence_count»)
+        → r ≡ among (texts (bodyNames (take (end - 20) (drop 20 (now (s .entry)))) qs) ++ texts (identifiers (take (end - 20) (drop 20 (now (s .entry)))) qs)) (now (identifier .entry))) ⌝ }
+{
+    let xs = &s[20..end];
+    let sequences = v.sequences;
+    let count = v.sequence_count as usize;
+    taken(
+        xs,
+        v.body as usize,
+        v.body_length as usize,
+        sequences,
+        count,
+        identifier,
+    )
+}
+
+// Everything that an append to a message with that view decides before it writes.
+pub fn examine(
+    e: Edition,
+    s: &[u8],
+    v: View,
+    identifier: &[u8],
+    documents: &[u8],
+    room: usize,
+) -> Found
+    requires { ⌜ read e (now s) ≡ ok v ⌝ }
+    ensures { λ r. ⌜ Examined e (now (s .entry)) v (now (identifier .entry)) (now (documents .entry)) room r ⌝ }
+{
+    let end = (v.length - checksum_size(v.flags)) as usize;
+    let passed = checks(
+        e,
+        end,
+        v.sequence_count,
+        v.length,
+        identifier,
+        documents.len(),
+        room,
+    );
+    if let Verdict::Refused { number, place } = passed {
+        return Found::Refused { number, place };
+    }
+    let at = end + (identifier.len() + 6);
+    match opmsg_documents::documents(documents, at as u32, v.elements) {
+        Run::Past {
+            documents: number,
+            elements,
+        } => {
+            if repeated(s, v, end, identifier) {
+                return Found::Refused {
+                    number: 24,
+                    place: end + 5,
+                };
+            }
+            Found::New {
+                end,
+                documents: number,
+                elements,
+            }
+        }
+        Run::Refused { number, place } => Found::Refused { number, place },
+    }
+}

@@ -1,0 +1,20 @@
+-- `message_write::whole` meets its contract.
+-- Assumes nothing.
+use native.Mathlib.Omega.{arith}
+use borrow.Author.Needs.{needs}
+use Rattle.opmsg.proofs.Limits.{checksum-small}
+use Rattle.message_write.proofs.whole.Statement.{statement}
+use Rattle.message_write.proofs.whole.Tie as tie
+
+add-result-2 : tie.Need-add-result-2
+add-result-2 c = omega (arith, c .checksum-size .ensures, checksum-small (c .before .args .flags))
+
+pub whole-spec : {M : Type 1} → statement M
+whole-spec =
+    tie.close
+    (tie.spec
+    (λ c. search needs)
+    (λ c. search needs)
+    (λ c κs. search needs)
+    add-result-2
+    (λ c. search needs))

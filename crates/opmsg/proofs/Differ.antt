@@ -1,0 +1,98 @@
+-- Names that differ in a message differ in a front of its sections. The names of elements that were read, one by one.
+-- Assumes nothing.
+use Prim.Native.Nat.{ℕ, zero, suc, _+_, _-_, _<_, _≤_}
+use mathlib.Core.Path.{_≡_, refl, sym, ap, _∙_}
+use mathlib.Core.List.{List, [], _∷_, _++_, map}
+use native.Mathlib.Omega.{arith}
+use lib.ListN.{length, take, drop, length-drop}
+use lib.Seq.{take-append-le, drop-append-le}
+use borrow.Author.Tests.{ne-eqb}
+use Rattle.wire.specs.Bytes.{untilZero}
+use Rattle.wire.specs.Outcome.{ok}
+use Rattle.wire.specs.Walk.{Reader, walk}
+use Rattle.wire.proofs.Outcome.{passed, pass, bound}
+use Rattle.wire.proofs.Walk.{walk-step}
+use Rattle.bson_elements.specs.Element.{element, elementSize}
+use Rattle.bson.proofs.Steady.{Frames}
+use Rattle.bson.proofs.Element.{element-advances, element-over}
+use Rattle.opmsg.specs.Sections.{Section, bodyStart, bodySize, sequencesOf}
+use Rattle.opmsg.specs.Names.{Name, distinct, elementNames, part, identifier, bodyNames, identifiers}
+use Rattle.opmsg.specs.declared.Sequence.{Sequence}
+use Rattle.opmsg.proofs.Accepted.{Differ}
+use Rattle.opmsg.proofs.Shown.{sequences-append, body-before}
+
+-- identifiers that stand within the first n bytes of the sections
+abbrev pub Within : ℕ → List Sequence → Type 0
+Within n [] = Unit {0}
+Within n (q ∷ qs) = ((q .name - 20) + q .«name_length» ≤ n) × Within n qs
+
+pub within-more : (m n : ℕ) (qs : List Sequence) → m ≤ n → Within m qs → Within n qs
+within-more m n [] l h = tt
+within-more m n (q ∷ qs) l h = (omega (arith, h .0), within-more m n qs l (h .1))
+
+pub within-append : (n : ℕ) (qs rs : List Sequence) → Within n qs → Within n rs → Within n (qs ++ rs)
+within-append n [] rs h k = k
+within-append n (q ∷ qs) rs h k = (h .0, within-append n qs rs (h .1) k)
+
+pub front-part : (ys zs : List ℕ) (place n : ℕ) → (place - 20) + n ≤ length ys → part (ys ++ zs) place n ≡ part ys place n
+unfolding part
+front-part ys zs place n h =
+    let l : place - 20 ≤ length ys = omega arith in
+    let k : n ≤ length (drop (place - 20) ys) = rw length-drop (omega arith) in
+    rw (drop-append-le (place - 20) ys zs l) (take-append-le n (drop (place - 20) ys) zs k)
+
+pub front-identifiers : (ys zs : List ℕ) (qs : List Sequence) → Within (length ys) qs → map (identifier (ys ++ zs)) qs ≡ map (identifier ys) qs
+unfolding identifier
+front-identifiers ys zs [] h = refl
+front-identifiers ys zs (q ∷ qs) h = rw (front-part ys zs (q .name) (q .«name_length») (h .0), front-identifiers ys zs qs (h .1))
+
+map-append : (f : Sequence → Name) (qs rs : List Sequence) → map f (qs ++ rs) ≡ map f qs ++ map f rs
+map-append f [] rs = refl
+map-append f (q ∷ qs) rs = ap (λ (l : List Name). f q ∷ l) (map-append f qs rs)
+
+front-distinct : (number : ℕ) (earlier : List (List ℕ)) (ns ms : List Name) → distinct number earlier (ns ++ ms) ≡ ok tt → distinct number earlier ns ≡ ok tt
+unfolding distinct
+front-distinct number earlier [] ms h = refl
+front-distinct number earlier (n ∷ ns) ms h =
+    let c = passed _ _ _ _ h in
+    pass number (n .place) _ (c .0) ∙ front-distinct number (n .text ∷ earlier) ns ms (c .1)
+
+-- in a front ys of the sections' bytes, with the body and all of qs in it
+pub front-differ : (ys zs : List ℕ) (qs rs : List Section) → 0 < bodyStart qs → (bodyStart qs + 4 - 20) + (bodySize qs - 5) ≤ length ys → Within (length ys) (sequencesOf qs)
+    → Differ (ys ++ zs) (qs ++ rs) → Differ ys qs
+unfolding bodyNames identifiers
+front-differ ys zs qs rs some inside k d =
+    let first = body-before qs rs some in
+    let p = front-part ys zs (bodyStart qs + 4) (bodySize qs - 5) inside in
+    let i : map (identifier (ys ++ zs)) (sequencesOf (qs ++ rs)) ≡ map (identifier ys) (sequencesOf qs) ++ map (identifier (ys ++ zs)) (sequencesOf rs) =
+    rw (sequences-append qs rs, map-append, front-identifiers ys zs (sequencesOf qs) k) in
+    record {
+      names = rw (first .0, first .1, p) at (d .names);
+      all = front-distinct 24 _ (map (identifier ys) (sequencesOf qs)) _ (rw (first .0, first .1, p, i) at (d .all));
+    }
+
+-- one turn of listing the names of elements
+pub names-step : (turns at : ℕ) (xs : List ℕ) → 0 < length xs
+    → elementNames (suc turns) at xs ≡ record { place = at + 1; text = take (untilZero (drop 1 xs)) (drop 1 xs) } ∷ elementNames turns (at + elementSize xs) (drop (elementSize xs) xs)
+unfolding elementNames
+names-step turns at xs l = rw (elementNames, ne-eqb (length xs) 0 (λ e. omega arith))
+
+pub names-done : (turns at : ℕ) → elementNames turns at [] ≡ []
+unfolding elementNames
+names-done zero at = refl
+names-done (suc turns) at = refl
+
+-- of elements that were read: turns past the bytes change nothing
+pub names-turns : (document : Reader ℕ) → Frames document → (m n at : ℕ) (xs : List ℕ) (count : ℕ) {total : ℕ} → length xs ≤ m → length xs ≤ n → walk (element document) m at xs count ≡ ok total
+    → elementNames m at xs ≡ elementNames n at xs
+names-turns document f zero n at [] count k l h = names-done zero at ∙ sym (names-done n at)
+names-turns document f zero n at (x ∷ xs) count k l h = absurd (omega arith)
+names-turns document f (suc m) n at [] count k l h = names-done (suc m) at ∙ sym (names-done n at)
+names-turns document f (suc m) zero at (x ∷ xs) count k l h = absurd (omega arith)
+names-turns document f (suc m) (suc n) at (x ∷ xs) count k l h =
+    bound (element document at (x ∷ xs) count) _ (sym (walk-step (element document) m at (x ∷ xs) count (omega arith)) ∙ h) λ one e rest.
+    let some = element-advances document at (x ∷ xs) count one e in
+    let size = element-over document f at (x ∷ xs) count one e in
+    let left = length-drop (one .size) (x ∷ xs) in
+    let i = names-turns document f m n (at + one .size) (drop (one .size) (x ∷ xs)) (one .state) (omega arith) (omega arith) rest in
+    rw (names-step m at (x ∷ xs) (omega arith), names-step n at (x ∷ xs) (omega arith), size, i)

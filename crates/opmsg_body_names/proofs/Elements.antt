@@ -1,0 +1,207 @@
+-- Laws of the names of elements: one after the other, and whether a text is one of them.
+-- Assumes nothing.
+use Prim.Native.Nat.{ℕ, zero, suc, _+_, _-_, _≤_, _<_}
+use mathlib.Core.Bool.{true, false}
+use mathlib.Core.Path.{_≡_, refl, sym, _∙_, ap}
+use mathlib.Core.List.{List, [], _∷_}
+use native.Mathlib.Numerals.{sub-one}
+use native.Mathlib.Omega.{arith}
+use lib.ListN.{length, take, drop, length-drop, length-map, drop-of-length-le}
+use lib.Seq.{drop-drop, take-all, take-nil}
+use borrow.Author.Tests.{ne-eqb}
+use Rattle.wire.specs.Outcome.{ok, refused}
+use Rattle.bson_elements.specs.Element.{elementSize}
+use Rattle.opmsg.specs.Names.{Name, sameText, among, distinct, elementNames, texts}
+use Rattle.opmsg.specs.Answers.{Filled, none, more}
+use Rattle.opmsg_body_names.specs.Answers.{nameText, namesOf, slotOf, marked, marking, Marks}
+use Rattle.opmsg_body_names.proofs.Texts.{among-cons, take-cons, drop-next, texts-take}
+use Rattle.opmsg_body_names.proofs.Distinct.{marks-none, Met, met-none, met-unmarked, met-next, met-again, met-all, met-marks}
+
+-- bytes that elements fill, from the second element on
+filled-next : {xs : List ℕ} → Filled xs → 0 < length xs → (0 < elementSize xs) × (elementSize xs ≤ length xs) × Filled (drop (elementSize xs) xs)
+filled-next none h = absurd (omega arith)
+filled-next (more a b f) h = (a, b, f)
+
+names-end : (turns at : ℕ) → elementNames turns at [] ≡ []
+unfolding elementNames
+names-end zero at = refl
+names-end (suc turns) at = refl
+
+-- the name of the first element, and those of the rest
+abbrev nameAt : ℕ → List ℕ → Name
+nameAt at xs = record { place = at + 1; text = nameText xs }
+
+names-next : (turns at : ℕ) (xs : List ℕ) → 0 < turns → 0 < length xs
+    → elementNames turns at xs ≡ nameAt at xs ∷ elementNames (turns - 1) (at + elementSize xs) (drop (elementSize xs) xs)
+unfolding elementNames nameText
+names-next zero at xs t l = absurd (omega arith)
+names-next (suc turns) at xs t l = rw (sub-one (suc turns), elementNames, ne-eqb (length xs) 0 (λ e. omega arith))
+
+-- more turns than bytes change nothing
+pub names-turns : (m n at : ℕ) (xs : List ℕ) → Filled xs → length xs ≤ m → length xs ≤ n → elementNames m at xs ≡ elementNames n at xs
+names-turns zero n at [] f k l = names-end zero at ∙ sym (names-end n at)
+names-turns zero n at (x ∷ xs) f k l = absurd (omega arith)
+names-turns (suc m) n at [] f k l = names-end (suc m) at ∙ sym (names-end n at)
+names-turns (suc m) n at (x ∷ xs) f k l =
+    let p = filled-next f (omega arith) in
+    let short : length (drop (elementSize (x ∷ xs)) (x ∷ xs)) ≤ length xs = rw length-drop (omega arith) in
+    names-next (suc m) at (x ∷ xs) (omega arith) (omega arith)
+    ∙ rw (sub-one (suc m)) (ap (λ (ns : List Name). nameAt at (x ∷ xs) ∷ ns) (names-turns m (n - 1) _ _ (p .2) (omega arith) (omega arith)))
+    ∙ sym (names-next n at (x ∷ xs) (omega arith) (omega arith))
+
+-- the texts do not depend on the places
+names-places : (turns a b : ℕ) (xs : List ℕ) → texts (elementNames turns a xs) ≡ texts (elementNames turns b xs)
+unfolding texts
+names-places zero a b xs = unfold elementNames in refl
+names-places (suc turns) a b [] = unfold elementNames in refl
+names-places (suc turns) a b (x ∷ xs) =
+    rw (names-next (suc turns) a (x ∷ xs) (omega arith) (omega arith), names-next (suc turns) b (x ∷ xs) (omega arith) (omega arith), sub-one (suc turns))
+    (ap (λ (ts : List (List ℕ)). nameText (x ∷ xs) ∷ ts) (names-places turns (a + elementSize (x ∷ xs)) (b + elementSize (x ∷ xs)) (drop (elementSize (x ∷ xs)) (x ∷ xs))))
+
+pub names-of : (turns at : ℕ) (xs : List ℕ) → Filled xs → length xs ≤ turns → texts (elementNames turns at xs) ≡ namesOf xs
+unfolding namesOf
+names-of turns at xs f l = names-places turns at 0 xs ∙ ap texts (names-turns turns (length xs) 0 xs f l (omega arith))
+
+-- there are no more names than bytes
+names-few : (turns at : ℕ) (xs : List ℕ) → Filled xs → length (elementNames turns at xs) ≤ length xs
+names-few zero at xs f = unfold elementNames in omega arith
+names-few (suc turns) at [] f = unfold elementNames in omega arith
+names-few (suc turns) at (x ∷ xs) f =
+    let p = filled-next f (omega arith) in
+    let rest = names-few turns (at + elementSize (x ∷ xs)) (drop (elementSize (x ∷ xs)) (x ∷ xs)) (p .2) in
+    rw (names-next (suc turns) at (x ∷ xs) (omega arith) (omega arith), sub-one (suc turns)) (omega (arith, rest, length-drop (elementSize (x ∷ xs)) (x ∷ xs)))
+
+pub all-names : (xs : List ℕ) → Filled xs → take (length xs) (namesOf xs) ≡ namesOf xs
+unfolding namesOf texts
+all-names xs f = take-all (length xs) _ (rw length-map (names-few (length xs) 0 xs f))
+
+-- ---- in code: an element starts at place i of xs, and so many turns are left
+
+pub record Reached (xs : List ℕ) (i turns : ℕ) : Type 0 where
+  pub within : i ≤ length xs
+  pub enough : length xs - i ≤ turns
+  pub filled : Filled (drop i xs)
+
+reached-none : (xs : List ℕ) → Filled xs → Reached xs 0 (length xs)
+reached-none xs f = record { within = omega arith; enough = omega arith; filled = f }
+
+module _ (xs : List ℕ) (i turns : ℕ) (r : Reached xs i turns) where
+  reached-end : (at : ℕ) → length xs ≤ i → elementNames turns at (drop i xs) ≡ []
+  reached-end at h = rw (drop-of-length-le xs h) (names-end turns at)
+
+  module _ (inside : i < length xs) where
+    some : 0 < length (drop i xs)
+    some = rw (length-drop i xs) (omega arith)
+
+    -- the element at place i was read
+    pub reached-size : (0 < elementSize (drop i xs)) × (elementSize (drop i xs) ≤ length (drop i xs))
+    reached-size = let p = filled-next (r .filled) some in (p .0, p .1)
+
+    reached-names : (at size : ℕ) → size ≡ elementSize (drop i xs)
+        → elementNames turns at (drop i xs) ≡ nameAt at (drop i xs) ∷ elementNames (turns - 1) (at + size) (drop (i + size) xs)
+    reached-names at size e = names-next turns at (drop i xs) (omega (arith, r .enough)) some ∙ rw (← e, drop-drop size i xs)
+
+    pub reached-next : (size : ℕ) → size ≡ elementSize (drop i xs) → (0 < size) × Reached xs (i + size) (turns - 1)
+    reached-next size e =
+        let p = filled-next (r .filled) some in
+        let a : 0 < size = rw e (p .0) in
+        let b : size ≤ length xs - i = rw (e, ← length-drop i xs) (p .1) in
+        (a, record { within = omega (arith, r .within); enough = omega (arith, r .enough); filled = rw (← drop-drop size i xs, e) (p .2) })
+
+-- ---- a text is looked for among the first k names: it is among the next `left` of those from place i on
+
+pub record Sought (xs : List ℕ) (k : ℕ) (text : List ℕ) (i left : ℕ) : Type 0 where
+  pub turns : ℕ
+  pub at : ℕ
+  pub reached : Reached xs i turns
+  pub same : among (take k (namesOf xs)) text ≡ among (take left (texts (elementNames turns at (drop i xs)))) text
+
+pub sought-none : (xs : List ℕ) (k : ℕ) (text : List ℕ) → Filled xs → Sought xs k text 0 k
+unfolding namesOf
+sought-none xs k text f = record { turns = length xs; at = 0; reached = reached-none xs f; same = refl }
+
+module _ (xs : List ℕ) (k : ℕ) (text : List ℕ) (i left : ℕ) (s : Sought xs k text i left) where
+  pub sought-end : length xs ≤ i → among (take k (namesOf xs)) text ≡ false
+  sought-end h = s .same ∙ rw (reached-end xs i (s .turns) (s .reached) (s .at) h) (unfold texts among in ap (λ (l : List (List ℕ)). among l text) (take-nil left))
+
+  pub sought-all : left ≡ 0 → among (take k (namesOf xs)) text ≡ false
+  unfolding among
+  sought-all h = s .same ∙ rw h
+
+  module _ (inside : i < length xs) (any : 0 < left) where
+    -- the next name is compared, and then the rest
+    next : (size : ℕ) → size ≡ elementSize (drop i xs)
+        → among (take k (namesOf xs)) text
+        ≡ among (nameText (drop i xs) ∷ take (left - 1) (texts (elementNames (s .turns - 1) (s .at + size) (drop (i + size) xs)))) text
+    unfolding texts
+    next size e = s .same ∙ rw (reached-names xs i (s .turns) (s .reached) inside (s .at) size e, take-cons left (nameText (drop i xs)) (texts (elementNames (s .turns - 1) (s .at + size) (drop (i + size) xs))) any)
+
+    pub sought-found : sameText text (nameText (drop i xs)) ≡ true → among (take k (namesOf xs)) text ≡ true
+    sought-found h = next _ refl ∙ among-cons _ _ _ ∙ rw h
+
+    pub sought-next : (size : ℕ) → size ≡ elementSize (drop i xs) → sameText text (nameText (drop i xs)) ≡ false → Sought xs k text (i + size) (left - 1)
+    sought-next size e h = record {
+      turns = s .turns - 1;
+      at = s .at + size;
+      reached = reached-next xs i (s .turns) (s .reached) inside size e .1;
+      same = next size e ∙ among-cons _ _ _ ∙ rw h;
+    }
+
+-- ---- the elements before place i of xs, k of them, have names that differ
+
+pub record Listed (at : ℕ) (xs : List ℕ) (i k : ℕ) (marks : List ℕ) : Type 0 where
+  pub turns : ℕ
+  pub reached : Reached xs i turns
+  pub whole : Filled xs
+  pub few : k ≤ i
+  pub left : drop k (elementNames (length xs) at xs) ≡ elementNames turns (at + i) (drop i xs)
+  pub met : Met 23 [] (elementNames (length xs) at xs) k marks
+
+module _ (at : ℕ) (xs : List ℕ) where
+  pub listed-none : Filled xs → (marks : List ℕ) → length marks ≡ 32 → Listed at xs 0 0 marks
+  listed-none f marks h =
+      let e : at + 0 ≡ at = omega arith in
+      record { turns = length xs; reached = reached-none xs f; whole = f; few = omega arith; left = rw e; met = met-none 23 [] _ (marks-none marks h) }
+
+  module _ (i k : ℕ) {marks : List ℕ} (l : Listed at xs i k marks) where
+    before : texts (take k (elementNames (length xs) at xs)) ≡ take k (namesOf xs)
+    before = texts-take k (elementNames (length xs) at xs) ∙ ap (take k) (names-of (length xs) at xs (l .whole) (omega arith))
+
+    -- a name without a mark is new
+    pub listed-unmarked : (t : List ℕ) → marked marks (slotOf t) ≡ false → among (take k (namesOf xs)) t ≡ false
+    listed-unmarked t h = rw before at (met-unmarked 23 [] (elementNames (length xs) at xs) k (l .met) t h)
+
+    module _ (inside : i < length xs) where
+      name : (size : ℕ) → size ≡ elementSize (drop i xs)
+          → drop k (elementNames (length xs) at xs) ≡ nameAt (at + i) (drop i xs) ∷ elementNames (l .turns - 1) (at + i + size) (drop (i + size) xs)
+      name size e = l .left ∙ reached-names xs i (l .turns) (l .reached) inside (at + i) size e
+
+      -- the next name is there already
+      pub listed-again : among (take k (namesOf xs)) (nameText (drop i xs)) ≡ true → distinct 23 [] (elementNames (length xs) at xs) ≡ refused 23 (at + i + 1)
+      listed-again h = met-again 23 [] (elementNames (length xs) at xs) k (l .met) _ _ (name _ refl) (rw before h)
+
+      -- the next name is new
+      pub listed-next : (size : ℕ) → size ≡ elementSize (drop i xs) → among (take k (namesOf xs)) (nameText (drop i xs)) ≡ false
+          → Listed at xs (i + size) (k + 1) (marking marks (slotOf (nameText (drop i xs))))
+      listed-next size e h =
+          let r = reached-next xs i (l .turns) (l .reached) inside size e in
+          let place : at + i + size ≡ at + (i + size) = omega arith in
+          record {
+            turns = l .turns - 1;
+            reached = r .1;
+            whole = l .whole;
+            few = omega (arith, l .few, r .0);
+            left = drop-next k (elementNames (length xs) at xs) (name size e) ∙ rw place;
+            met = met-next 23 [] (elementNames (length xs) at xs) k (l .met) _ _ (name size e) (rw before h);
+          }
+
+    -- no element is left
+    module _ (end : length xs ≤ i) where
+      done : drop k (elementNames (length xs) at xs) ≡ []
+      done = l .left ∙ reached-end xs i (l .turns) (l .reached) (at + i) end
+
+      pub listed-all : distinct 23 [] (elementNames (length xs) at xs) ≡ ok tt
+      listed-all = met-all 23 [] (elementNames (length xs) at xs) k (l .met) done
+
+      pub listed-marks : Marks (namesOf xs) marks
+      listed-marks = rw (names-of (length xs) at xs (l .whole) (omega arith)) at (met-marks 23 [] (elementNames (length xs) at xs) k (l .met) done)

@@ -1,0 +1,10 @@
+-- What the answer on documents back to back stands for in document 01's terms.
+-- Assumes nothing: these are definitions.
+use Rattle.wire.specs.Outcome.{Outcome, ok, refused}
+use Rattle.opmsg.specs.Sections as Sections
+use Rattle.opmsg_documents.specs.declared.Run.{Run}
+
+-- documents back to back
+abbrev pub ran : Run → Outcome Sections.Run
+ran (Run.Past documents elements) = ok (record { documents = documents; elements = elements })
+ran (Run.Refused number place) = refused number place

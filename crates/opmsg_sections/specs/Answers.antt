@@ -1,0 +1,31 @@
+-- What the answer stands for in document 01's terms.
+-- Assumes nothing: these are definitions.
+use Prim.Native.Nat.{ℕ, _+_, _-_, _≤_}
+use mathlib.Core.List.{List}
+use mathlib.Core.Path.{_≡_}
+use Rattle.wire.specs.Outcome.{ok, refused}
+use Rattle.wire.specs.Walk.{walk}
+use Rattle.opmsg.specs.Sections.{maxSequences, Parts, nothing, sectionAt}
+use Rattle.opmsg.specs.Names.{part}
+use Rattle.opmsg.specs.declared.Edition.{Edition}
+use Rattle.opmsg.specs.declared.Verdict.{Verdict}
+use Rattle.opmsg.specs.declared.Content.{Content}
+use Rattle.opmsg.specs.declared.Verdict.the-variants.{Accepted, Refused}
+use Rattle.opmsg.specs.Answers.{Shows, Filled}
+
+-- all sections of xs, which start at 20: the definition's parts are those that code keeps; elements fill the body
+pub record Gathered (e : Edition) (xs : List ℕ) (c : Content) : Type 0 where
+  pub parts : Parts
+  pub read : walk (sectionAt e) (lib.ListN.length xs) 20 xs nothing ≡ ok parts
+  pub shows : Shows (parts .sections) (c .body) (c .«body_length») (c .sequences) (c .count)
+  pub elements-is : parts .elements ≡ c .elements
+  pub few : c .count ≤ maxSequences
+  pub near : c .body + c .«body_length» ≤ 20 + lib.ListN.length xs
+  pub filled : Filled (part xs (c .body + 4) (c .«body_length» - 5))
+
+abbrev pub listed : Edition → List ℕ → Content → Verdict → Type 0
+listed e xs c Accepted = Gathered e xs c
+listed e xs c (Refused number place) = walk (sectionAt e) (lib.ListN.length xs) 20 xs nothing ≡ refused number place
+
+abbrev pub Listed : Edition → List ℕ → Content → Type 0
+Listed e xs c = listed e xs c (c .verdict)

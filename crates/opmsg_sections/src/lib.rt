@@ -1,0 +1,117 @@
+// Checks 10 to 21: the sections of a message, from left to right. A slice starts at the place `at` of the message, and ends below 2 ^ 31.
+use bson::Walk;
+use opmsg::Content;
+use opmsg::Edition;
+use opmsg::Verdict;
+use opmsg::no_sequence;
+use opmsg_sequences::Part;
+use opmsg_sequences::refused;
+use opmsg_sequences::sequence_section;
+ghost use mathlib.Core.Path.{_≡_};
+ghost use Prim.Native.Nat.{ℕ, _+_, _^_, _<_};
+ghost use lib.ListN.{length};
+ghost use Rattle.opmsg.specs.Sections.{Parts, bodySection, sectionAt};
+ghost use Rattle.opmsg_sequences.specs.Answers.{partOf, Reaches, Carries};
+ghost use Rattle.opmsg_sections.specs.Answers.{Listed};
+
+// Kind 0; xs begins with the kind byte. `start` is that of a body passed before, or 0.
+fn body_section(xs: &[u8], at: usize, start: usize, elements: u32) -> Part
+    requires { ⌜ (0 < length (now xs)) × (at + length (now xs) < 2 ^ 31) ⌝ }
+    ensures is { λ r. ⌜ ((p : Parts) (number : ℕ) → Carries p start number elements → partOf at p r ≡ bodySection at (now (xs .entry)) p) ⌝ }
+    ensures inside { λ r. ⌜ Reaches (now (xs .entry)) r ⌝ }
+{
+    if 0 < start {
+        return refused(11, at);
+    }
+    match bson::document(&xs[1..], (at + 1) as u32, elements) {
+        Walk::Past { size, count } => Part::Body {
+            size,
+            elements: count,
+        },
+        Walk::Refused { number, place } => Part::Refused { number, place },
+    }
+}
+
+// The section at the start of xs.
+fn section(e: Edition, xs: &[u8], at: usize, start: usize, count: usize, elements: u32) -> Part
+    requires { ⌜ (0 < length (now xs)) × (at + length (now xs) < 2 ^ 31) ⌝ }
+    ensures is { λ r. ⌜ ((p : Parts) → Carries p start count elements → partOf at p r ≡ sectionAt e at (now (xs .entry)) p) ⌝ }
+    ensures inside { λ r. ⌜ Reaches (now (xs .entry)) r ⌝ }
+{
+    let kind = xs[0];
+    if kind == 0 {
+        return body_section(xs, at, start, elements);
+    }
+    if kind != 1 {
+        return refused(10, at);
+    }
+    if !e.sequences {
+        return refused(10, at);
+    }
+    sequence_section(xs, at, count, elements)
+}
+
+// No sections, with a verdict.
+fn nothing(verdict: Verdict) -> Content
+    ensures { λ r. ⌜ r .verdict ≡ verdict ⌝ }
+{
+    let none = no_sequence();
+    let sequences = [none; 16];
+    Content {
+        verdict,
+        body: 0,
+        body_length: 0,
+        count: 0,
+        sequences,
+        elements: 0,
+    }
+}
+
+// All sections of a message; xs are their bytes, which start at 20.
+pub fn sections(e: Edition, xs: &[u8]) -> Content
+    requires { ⌜ length (now xs) < 2 ^ 30 ⌝ }
+    ensures { λ r. ⌜ Listed e (now (xs .entry)) r ⌝ }
+{
+    let mut i = 0;
+    let mut body = 0;
+    let mut body_length = 0;
+    let mut count = 0;
+    let none = no_sequence();
+    let mut sequences = [none; 16];
+    let mut elements = 0;
+    while i < xs.len() {
+        let at = 20 + i;
+        match section(e, &xs[i..], at, body, count, elements) {
+            Part::Body {
+                size,
+                elements: counted,
+            } => {
+                body = at + 1;
+                body_length = size;
+                elements = counted;
+                i += 1 + size;
+            }
+            Part::Sequenced {
+                entry,
+                size,
+                elements: counted,
+            } => {
+                sequences[count] = entry;
+                count += 1;
+                elements = counted;
+                i += size;
+            }
+            Part::Refused { number, place } => {
+                return nothing(Verdict::Refused { number, place });
+            }
+        }
+    }
+    Content {
+        verdict: Verdict::Accepted,
+        body,
+        body_length,
+        count,
+        sequences,
+        elements,
+    }
+}
