@@ -1,8 +1,10 @@
 """Holds the papers to the repository: the crates, files and wrong programs that they name are there.
 
-README.md names every crate in its map. docs/PROMISES.md and docs/DECISIONS.md name files below crates/, public
-functions, and in the column of wrong programs `crate: label, label`, or `crate, crate: all`. Every public function
-has a promise, and those that ask something of their callers are exactly the ones that DECISIONS.md lists.
+README.md names every crate in its map. It and the papers in docs/ name files below crates/, functions, and in
+PROMISES.md's columns of wrong programs `crate: label, label`, or `crate, crate: all`. Every public function has a
+promise, and those that ask something of their callers are exactly the ones that DECISIONS.md lists. The definitions
+that PROMISES.md says a reader must believe are all of specs/ but the files named Inner.antt; they cite no other, and
+neither do the promises of the calls. Its table of refusals has every number. The listing's own run is the sample.
 """
 
 import glob
@@ -11,7 +13,7 @@ import re
 import sys
 
 ROOT = pathlib.Path(__file__).resolve().parent.parent
-CRATES = [line.split(":")[0].strip() for line in (ROOT / "crates.txt").read_text().splitlines() if ":" in line]
+CRATES = re.findall(r"^(\w+):", (ROOT / "crates.txt").read_text(), re.M)
 faults = []
 
 
@@ -40,6 +42,13 @@ def files_and_functions(name):
                 function = re.split(r"\W", path.split("::")[-1])[0]
                 if not re.search(rf"\bfn {function}\b", source):
                     faults.append(f"{name}: no function {path}")
+
+
+def relative_paths(name):
+    """Paths from the repository's root, as README has them."""
+    for path in re.findall(r"`((?:crates|host|tests|bench|docs|samples)/[^`\s]*)`", paper(name)):
+        if not glob.glob(str(ROOT / path)):
+            faults.append(f"{name}: no {path}")
 
 
 def braces(text):
@@ -93,10 +102,72 @@ def promises():
         faults.append(f"docs/DECISIONS.md: {crate}::{function} asks nothing")
 
 
+CITED = r"Rattle·(\w+?)(?:·specs)?\.specs\.(\w+)\.\{([^}]*)\}"
+
+
+def believed():
+    """The definitions that PROMISES.md lists, and what they and the promises of the calls cite."""
+    section = re.search(r"## What a reader must believe(.*?)\n## ", paper("docs/PROMISES.md"), re.S)[1]
+    listed = set(re.findall(r"`(\w+/specs/\w+\.antt)`", section))
+    there = {
+        str(file.relative_to(ROOT / "crates"))
+        for file in ROOT.glob("crates/*/specs/*.antt")
+        if file.name not in ("Lib.antt", "Inner.antt")
+    }
+    for path in sorted(listed ^ there):
+        faults.append(f"docs/PROMISES.md: what must be believed and specs/ differ in {path}")
+    for path in sorted(listed & there):
+        text = (ROOT / "crates" / path).read_text(encoding="utf-8")
+        for crate, module, _ in re.findall(CITED, text):
+            if module == "Inner":
+                faults.append(f"{path} cites {crate}/specs/Inner.antt")
+    for crate, file, function in calls():
+        source = file.read_text(encoding="utf-8")
+        inner = {name.strip() for _, module, names in re.findall(CITED, source) if module == "Inner" for name in names.split(",")}
+        for name, clauses in re.findall(r"\bpub (?:extern \"C\" )?fn (\w+)(.*?)\{\n", source, re.S):
+            main = clauses.split("ensures")[1] if "ensures" in clauses else ""
+            if name == function and inner & set(re.findall(r"[\w·-]+", main)):
+                faults.append(f"{crate}::{function}: its first promise cites Inner.antt")
+
+
+def calls():
+    """The functions that `relay` passes on, and those of `relay_c`: crate, file, name."""
+    for path in re.findall(r"pub use ([\w:]+);", (ROOT / "crates/relay/src/lib.rt").read_text(encoding="utf-8")):
+        parts = path.split("::")
+        for file in (ROOT / "crates" / parts[0] / "src").glob("*.rt"):
+            if re.search(rf"\bpub fn {parts[-1]}\b", file.read_text(encoding="utf-8")):
+                yield parts[0], file, parts[-1]
+    file = ROOT / "crates/relay_c/src/lib.rt"
+    for function in re.findall(r'pub extern "C" fn (\w+)', file.read_text(encoding="utf-8")):
+        yield "relay_c", file, function
+
+
+def every_refusal():
+    section = re.search(r"\n## Refusals\n(.*?)\n## ", paper("docs/PROMISES.md"), re.S)[1]
+    numbers = set()
+    for row in re.findall(r"^\| ([\d, to]+?)(?:, (?:in|of) [^|]*)? \|", section, re.M):
+        for part in row.split(", "):
+            first, _, last = part.partition(" to ")
+            numbers.update(range(int(first), int(last or first) + 1))
+    if numbers != set(range(1, 26)):
+        faults.append(f"docs/PROMISES.md: no row for the refusals {sorted(set(range(1, 26)) ^ numbers)}")
+
+
+def sample():
+    for ours, sample in (("stdin", "stream.bin"), ("stdout", "stream.txt")):
+        if (ROOT / "crates/relay_log" / ours).read_bytes() != (ROOT / "samples" / sample).read_bytes():
+            faults.append(f"crates/relay_log/{ours} is not samples/{sample}")
+
+
 crates_in_readme()
 promises()
-files_and_functions("docs/PROMISES.md")
-files_and_functions("docs/DECISIONS.md")
+believed()
+every_refusal()
+sample()
+for name in ("docs/PROMISES.md", "docs/DECISIONS.md", "docs/GLOSSARY.md"):
+    files_and_functions(name)
+for name in ("README.md", "docs/RUNNING.md"):
+    relative_paths(name)
 wrong_programs("docs/PROMISES.md")
 print("\n".join(faults) or "the papers name what is there")
 sys.exit(1 if faults else 0)

@@ -11,7 +11,7 @@ use Rattle.wire.specs.Walk.{Step, step, walk}
 use Rattle.wire.proofs.Outcome.{not-ok, ok-same, bound, check-leb}
 use Rattle.bson_elements.specs.Element.{Head, head, element, maxElements}
 use Rattle.bson.specs.Document.{frame, documentAt, told}
-use Rattle.bson.specs.Answers.{alone}
+use Rattle.bson.specs.Inner.{alone}
 use Rattle.bson.specs.declared.Walk.{Walk}
 use Rattle.bson.proofs.Frame.{Framed, frame-is, document-framed}
 

@@ -9,7 +9,7 @@ ghost use Prim.Native.Nat.{_+_, _^_, _<_};
 ghost use lib.ListN.{length};
 ghost use Rattle.bson_elements.specs.Element.{element};
 ghost use Rattle.bson.specs.Document.{told, frame, documentAt};
-ghost use Rattle.bson.specs.Answers.{alone, Spans};
+ghost use Rattle.bson.specs.Inner.{alone, Spans};
 
 fn refused(number: u32, place: usize) -> Walk
     ensures { λ r. ⌜ r ≡ Walk.Refused number place ⌝ }

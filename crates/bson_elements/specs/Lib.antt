@@ -1,2 +1,2 @@
 pub mod Element
-pub mod Answers
+pub mod Inner

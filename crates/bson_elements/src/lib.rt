@@ -8,9 +8,9 @@ use wire::until_zero;
 ghost use mathlib.Core.Path.{_≡_};
 ghost use Prim.Native.Nat.{ℕ, _+_, _^_, _<_, _≤_};
 ghost use lib.ListN.{length};
-ghost use Rattle.bson_values.specs.Answers.{shape, Inside};
+ghost use Rattle.bson_values.specs.Inner.{shape, Inside};
 ghost use Rattle.bson_elements.specs.Element.{head};
-ghost use Rattle.bson_elements.specs.Answers.{outline, begins, Lies};
+ghost use Rattle.bson_elements.specs.Inner.{outline, begins, Lies};
 
 // The most elements of a message.
 pub const MAX_ELEMENTS: u32 = 4096;

@@ -9,7 +9,7 @@ use Rattle.wire.specs.Outcome.{Outcome, ok}
 use Rattle.wire.specs.Bytes.{word}
 use Rattle.wire.proofs.Outcome.{ok-same, went, passed}
 use Rattle.bson_values.specs.Value.{Value, sized, boolean, string, binary, pointer, codeWithScope, bytes}
-use Rattle.bson_skip.specs.Answers.{span}
+use Rattle.bson_skip.specs.Inner.{span}
 
 pub sized-is : (v k : ℕ) (xs : List ℕ) (n : ℕ) → sized v k xs ≡ ok n → k ≡ n
 unfolding sized

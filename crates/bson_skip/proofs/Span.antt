@@ -12,7 +12,7 @@ use Rattle.wire.specs.Walk.{Step}
 use Rattle.wire.proofs.Outcome.{ok-same, went, passed}
 use Rattle.wire.proofs.Walk.{step-size}
 use Rattle.bson_values.specs.Value.{Value, plain, embedded, scoped, Rule, table, ruleIn}
-use Rattle.bson_skip.specs.Answers.{span}
+use Rattle.bson_skip.specs.Inner.{span}
 use Rattle.bson_elements.specs.Element.{Head, head, inside, element, sizeOf, over, elementSize}
 
 record HeadIs (xs : List ℕ) (h : Head) : Type 0 where

@@ -11,9 +11,9 @@ ghost use Prim.Native.Nat.{ℕ, _<_, _≤_};
 ghost use lib.ListN.{length};
 ghost use Rattle.wire.specs.Outcome.{ok};
 ghost use Rattle.bson_values.specs.Value.{Value};
-ghost use Rattle.bson_values.specs.Answers.{extent, ruleOf};
+ghost use Rattle.bson_values.specs.Inner.{extent, ruleOf};
 ghost use Rattle.bson_elements.specs.Element.{elementSize};
-ghost use Rattle.bson_skip.specs.Answers.{span};
+ghost use Rattle.bson_skip.specs.Inner.{span};
 
 // The bytes of something that keeps its rule.
 fn taken(e: Extent) -> usize

@@ -8,7 +8,7 @@ use native.Mathlib.Decide.{decLt}
 use Rattle.wire.specs.Outcome.{Outcome, ok, refused}
 use Rattle.wire.specs.Bytes.{oneOf}
 use Rattle.bson_values.specs.Value.{Rule, table, ruleIn}
-use Rattle.bson_values.specs.Answers.{Unlisted}
+use Rattle.bson_values.specs.Inner.{Unlisted}
 use Rattle.bson_values.proofs.Value.{type-fits}
 
 abbrev accepted : Outcome Rule → Bool

@@ -6,7 +6,7 @@ ghost use mathlib.Core.Path.{_≡_};
 ghost use Prim.Native.Nat.{ℕ, _<_};
 ghost use lib.ListN.{length};
 ghost use Rattle.bson_values.specs.Value.{sized, boolean, cstring, string, binary, regex, pointer, codeWithScope, bytes, table, ruleIn};
-ghost use Rattle.bson_values.specs.Answers.{extent, Within, shape, Inside, ruleOf, listed, Unlisted};
+ghost use Rattle.bson_values.specs.Inner.{extent, Within, shape, Inside, ruleOf, listed, Unlisted};
 
 // How many bytes something takes; or it breaks its rule.
 pub enum Extent {

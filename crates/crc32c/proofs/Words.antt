@@ -12,7 +12,7 @@ use lib.Pow.{shr-shr}
 use lib.Bits.{bitXor, xor-comm, xor-zero-r, xor-shifted}
 use Rattle.crc32c_tables.specs.Steps.{shiftBits}
 use Rattle.crc32c.specs.Crc.{intoByte, registerAfter}
-use Rattle.crc32c.specs.Word.{littleEndian}
+use Rattle.crc32c.specs.Inner.{littleEndian}
 use Rattle.crc32c_tables.proofs.Xor.{xor-assoc, xor-split}
 use Rattle.crc32c_tables.proofs.Laws.{linear, shift-add, shift-up, shift-zero}
 use Rattle.crc32c.proofs.Laws.{register-append}

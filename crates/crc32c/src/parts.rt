@@ -6,7 +6,7 @@ ghost use lib.ListN.{length, take, drop};
 ghost use lib.Bits.{bitXor};
 ghost use Rattle.crc32c_tables.specs.Steps.{shiftBits};
 ghost use Rattle.crc32c.specs.Crc.{intoByte, registerAfter};
-ghost use Rattle.crc32c.specs.Word.{littleEndian};
+ghost use Rattle.crc32c.specs.Inner.{littleEndian};
 
 // A byte as a number of 64 bits.
 fn wide(b: u8) -> u64

@@ -18,7 +18,8 @@ use Rattle.opmsg.specs.declared.View.{View}
 use Rattle.opmsg.specs.declared.Reading.{Reading}
 use Rattle.opmsg.specs.declared.Verdict.the-variants.{Accepted, Refused}
 use Rattle.opmsg.proofs.Accepted.{reads}
-use Rattle.listing.specs.Next.{short, Within, summaryOf}
+use Rattle.listing.specs.Next.{short, summaryOf}
+use Rattle.listing.specs.Inner.{Within}
 use Rattle.listing.specs.declared.Step.the-variants.{Message}
 
 -- a reading by its verdict

@@ -1,6 +1,6 @@
 -- What comes next in a stream of messages, by the bytes at hand.
 -- Assumes nothing: these are definitions.
-use Prim.Native.Nat.{ℕ, _<_, _≤_}
+use Prim.Native.Nat.{ℕ}
 use mathlib.Core.Bool.{Bool, true, false, not, _&&_}
 use mathlib.Core.List.{List}
 use lib.ListN.{length}
@@ -43,10 +43,3 @@ stepOf (refused number place) = Bad number place
 unfoldable pub next : (ended : Bool) → List ℕ → Step
 next false s = elim (short s) [ true ↦ More | false ↦ stepOf (read house s) ]
 next true s = elim (eqb (length s) 0) [ true ↦ End | false ↦ stepOf (read house s) ]
-
--- a message lies within the n bytes at hand, and more are asked for only where they are fewer than a message may have
-abbrev pub Within : ℕ → Step → Type 0
-Within n (Message m) = (0 < m .length) × (m .length ≤ n) × (m .length ≤ maxLength)
-Within n (Bad number place) = Unit {0}
-Within n More = n < maxLength
-Within n End = Unit {0}

@@ -10,7 +10,8 @@ ghost use mathlib.Core.Path.{_≡_};
 ghost use lib.ListN.{length};
 ghost use Rattle.opmsg.specs.Flags.{house};
 ghost use Rattle.opmsg.specs.Read.{read};
-ghost use Rattle.listing.specs.Next.{short, stepOf, next, Within};
+ghost use Rattle.listing.specs.Next.{short, stepOf, next};
+ghost use Rattle.listing.specs.Inner.{Within};
 
 // The bytes at hand are short of a header, or of the message whose length it says.
 fn short(s: &[u8]) -> bool

@@ -1,1 +1,1 @@
-pub mod Decided
+pub mod Inner

@@ -13,8 +13,8 @@ ghost use lib.ListN.{length};
 ghost use Rattle.opmsg.specs.View.{answer};
 ghost use Rattle.message.specs.Message.{viewed, output};
 ghost use Rattle.message.specs.Append.{append};
-ghost use Rattle.message_append_checks.specs.Grown.{grown};
-ghost use Rattle.message_append.specs.Decided.{Decided};
+ghost use Rattle.message_append_checks.specs.Inner.{grown};
+ghost use Rattle.message_append.specs.Inner.{Decided};
 
 // The view with one sequence more: its kind byte is at a place, its identifier has n bytes and its documents d.
 fn grown(v: View, at: usize, n: usize, d: usize, documents: u32, elements: u32) -> View

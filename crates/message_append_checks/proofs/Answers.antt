@@ -12,7 +12,7 @@ use Rattle.opmsg.specs.Layout.{checksumSize, sectionsEnd, sectionBytes}
 use Rattle.opmsg.specs.Sections.{Section, nextDocument}
 use Rattle.opmsg.specs.Names.{among, part, bodyNames, identifiers, texts}
 use Rattle.opmsg.specs.Read.{read}
-use Rattle.opmsg.specs.Answers.{Shows, Filled}
+use Rattle.opmsg.specs.Inner.{Shows, Filled}
 use Rattle.opmsg.specs.declared.Edition.{Edition}
 use Rattle.opmsg.specs.declared.View.{View}
 use Rattle.opmsg.proofs.Limits.{maxLength-small, checksum-small}
@@ -20,7 +20,7 @@ use Rattle.opmsg.proofs.Accepted.{reads}
 use Rattle.message.specs.Append.{sequenceBytes, appended, append}
 use Rattle.message.proofs.Message.{stated-end, stated-length}
 use Rattle.message.proofs.Forwarded.{view-length}
-use Rattle.message_append_checks.specs.Grown.{allowed, grown, Ready}
+use Rattle.message_append_checks.specs.Inner.{allowed, grown, Ready}
 use Rattle.message_append_checks.proofs.Held.{Held, accepted-held}
 use Rattle.message_append_checks.proofs.Appending.{Allowed, allows, end-is, shows, append-barred, append-documents, append-taken, append-grown}
 

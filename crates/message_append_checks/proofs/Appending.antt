@@ -18,7 +18,7 @@ use Rattle.opmsg.specs.Sections.{maxSequences, Run, nothing, sectionAt, sequenc
 use Rattle.opmsg.specs.Names.{among, bodyNames, identifiers, texts}
 use Rattle.opmsg.specs.View.{viewOf}
 use Rattle.opmsg.specs.Read.{parts, content, read}
-use Rattle.opmsg.specs.Answers.{Shows}
+use Rattle.opmsg.specs.Inner.{Shows}
 use Rattle.opmsg.specs.declared.Edition.{Edition}
 use Rattle.opmsg.specs.declared.View.{View}
 use Rattle.opmsg.proofs.Limits.{maxLength-small}
@@ -33,7 +33,7 @@ use Rattle.message.proofs.Forwarded.{required, view-flags, view-length}
 use Rattle.message.proofs.Appended.{appended-word, appended-stated, appended-flags, appended-end, appended-sections, appended-sound}
 use Rattle.opmsg_sections.proofs.Gather.{body-stays, sequences-more}
 use Rattle.message_append_store.proofs.Size.{sizeOf, bytes-length}
-use Rattle.message_append_checks.specs.Grown.{allowed, entry, grown}
+use Rattle.message_append_checks.specs.Inner.{allowed, entry, grown}
 use Rattle.message_append_checks.proofs.Held.{accepted-held}
 use Rattle.message_append_checks.proofs.Section.{runAt, withSection, section-walked, names-checked}
 

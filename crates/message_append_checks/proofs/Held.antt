@@ -16,7 +16,7 @@ use Rattle.opmsg.specs.Layout.{sectionsEnd, sectionBytes}
 use Rattle.opmsg.specs.Sections.{maxSequences, Section, body, bodyStart, bodySize, sequencesOf, Parts, nothing, sectionAt}
 use Rattle.opmsg.specs.Names.{part}
 use Rattle.opmsg.specs.Read.{parts, read}
-use Rattle.opmsg.specs.Answers.{Filled, none}
+use Rattle.opmsg.specs.Inner.{Filled, none}
 use Rattle.opmsg.specs.declared.Edition.{Edition}
 use Rattle.opmsg.specs.declared.View.{View}
 use Rattle.opmsg.proofs.Accepted.{reads}

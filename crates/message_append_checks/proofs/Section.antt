@@ -27,7 +27,7 @@ use Rattle.opmsg_body_names.proofs.Texts.{among-append, among-last}
 use Rattle.opmsg_sections.proofs.Gather.{body-stays, sequences-more}
 use Rattle.opmsg_documents.proofs.Turns.{run-turns}
 use Rattle.message_append_store.proofs.Size.{sizeOf, bytes-length}
-use Rattle.message_append_checks.specs.Grown.{entry}
+use Rattle.message_append_checks.specs.Inner.{entry}
 use Rattle.message_append_checks.proofs.Held.{Held}
 
 -- a text without a zero byte ends at the zero byte behind it

@@ -10,8 +10,8 @@ ghost use Prim.Native.Nat.{_+_, _^_, _<_};
 ghost use lib.Dec.{ltb};
 ghost use lib.ListN.{length};
 ghost use Rattle.opmsg.specs.Layout.{maxLength};
-ghost use Rattle.opmsg.specs.Answers.{judged};
-ghost use Rattle.message_append_checks.specs.Grown.{allowed};
+ghost use Rattle.opmsg.specs.Inner.{judged};
+ghost use Rattle.message_append_checks.specs.Inner.{allowed};
 
 // A message of `old` bytes with a new section passes the limit; the identifier has n bytes and the documents d.
 fn too_long(old: u32, n: usize, d: usize) -> bool

@@ -14,10 +14,10 @@ ghost use Prim.Native.Nat.{_+_, _-_, _^_, _<_, _≤_};
 ghost use lib.ListN.{length, take, drop};
 ghost use Rattle.opmsg.specs.Sections.{Section};
 ghost use Rattle.opmsg.specs.Names.{among, part, bodyNames, identifiers, texts};
-ghost use Rattle.opmsg.specs.Answers.{Shows, Filled};
+ghost use Rattle.opmsg.specs.Inner.{Shows, Filled};
 ghost use Rattle.wire.specs.Outcome.{ok};
 ghost use Rattle.opmsg.specs.Read.{read};
-ghost use Rattle.message_append_checks.specs.Examined.{Examined};
+ghost use Rattle.message_append_checks.specs.Inner.{Examined};
 
 // What an append finds of its parts: where the message's sections end, and the documents counted with all elements; or why it refuses.
 pub enum Found {

@@ -11,7 +11,7 @@ use Rattle.wire.proofs.Parts.{put-fits}
 use Rattle.opmsg.specs.Layout.{checksumSize}
 use Rattle.message.specs.Message.{checksum, message, wholeLength}
 use Rattle.message.specs.Append.{sequenceBytes, appended}
-use Rattle.message_seal.specs.Over.{over}
+use Rattle.message_seal.specs.Inner.{over}
 use Rattle.message_seal.proofs.Stores.{Stored, stores-none, stores, stores-byte, sealed}
 use Rattle.message_append_store.proofs.Size.{sizeOf, bytes-length}
 

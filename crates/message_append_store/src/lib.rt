@@ -10,7 +10,7 @@ ghost use lib.ListN.{length, take, drop};
 ghost use Rattle.wire.specs.Bytes.{put};
 ghost use Rattle.opmsg.specs.Layout.{checksumSize};
 ghost use Rattle.message.specs.Append.{sequenceBytes, appended};
-ghost use Rattle.message_seal.specs.Over.{over};
+ghost use Rattle.message_seal.specs.Inner.{over};
 
 // Stores a section of kind 1 at a place.
 fn section(out: &mut [u8], at: usize, identifier: &[u8], documents: &[u8])

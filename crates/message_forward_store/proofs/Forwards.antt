@@ -13,9 +13,9 @@ use Rattle.message.specs.Message.{message, checksum, wholeLength}
 use Rattle.message.proofs.Message.{header-length, header-word, stated-end}
 use Rattle.message.proofs.Forwarded.{view-length, form}
 use Rattle.message.proofs.Whole.{whole}
-use Rattle.message_seal.specs.Over.{over}
+use Rattle.message_seal.specs.Inner.{over}
 use Rattle.message_seal.proofs.Stores.{Stored, stores-none, stores, sealed}
-use Rattle.message_forward_store.specs.Shown.{Shown}
+use Rattle.message_forward_store.specs.Inner.{Shown}
 
 module _ (s : List ℕ) (size flags : ℕ) (m : Shown s size flags) where
   shown-size : size ≡ 20 + length (sectionBytes s) + checksumSize flags

@@ -9,8 +9,8 @@ ghost use Prim.Native.Nat.{_≤_};
 ghost use lib.ListN.{length, take};
 ghost use Rattle.opmsg.specs.Layout.{sectionBytes};
 ghost use Rattle.message.specs.Message.{message};
-ghost use Rattle.message_seal.specs.Over.{over};
-ghost use Rattle.message_forward_store.specs.Shown.{Shown};
+ghost use Rattle.message_seal.specs.Inner.{over};
+ghost use Rattle.message_forward_store.specs.Inner.{Shown};
 
 // Stores the message at the start of s with another flag word, and the checksum worked out anew.
 fn reflagged(out: &mut [u8], s: &[u8], size: usize, flags: u32)

@@ -12,7 +12,7 @@ use Rattle.wire.proofs.Parts.{put-fits}
 use Rattle.opmsg.specs.Layout.{checksumSize}
 use Rattle.message.specs.Message.{checksum}
 use Rattle.message.proofs.Message.{length-checksum}
-use Rattle.message_seal.specs.Over.{over}
+use Rattle.message_seal.specs.Inner.{over}
 
 -- what stands there after the bytes p were stored over old
 abbrev pub Stored : List ℕ → List ℕ → List ℕ → Type 0

@@ -31,8 +31,8 @@ use Rattle.opmsg.proofs.Accepted.{Sound, read-content}
 use Rattle.message.specs.Message.{wholeLength}
 use Rattle.message.specs.Write.{written, write}
 use Rattle.message.proofs.Message.{Headed, message-word, message-flags, message-end, message-sections, message-sound}
-use Rattle.message_write_checks.specs.Answers.{Fit, examined}
-use Rattle.message_write.specs.Answers.{shown}
+use Rattle.message_write_checks.specs.Inner.{Fit, examined}
+use Rattle.message_write.specs.Inner.{shown}
 
 -- ---- sections that are a body alone
 

@@ -16,7 +16,7 @@ ghost use Rattle.opmsg.specs.Layout.{checksumSize};
 ghost use Rattle.opmsg.specs.View.{answer};
 ghost use Rattle.message.specs.Message.{viewed, output};
 ghost use Rattle.message.specs.Write.{write};
-ghost use Rattle.message_write.specs.Answers.{Decided, shown};
+ghost use Rattle.message_write.specs.Inner.{Decided, shown};
 
 // How long the message is.
 fn whole(flags: u32, size: usize) -> u32

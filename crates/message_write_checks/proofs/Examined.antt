@@ -10,12 +10,12 @@ use Rattle.wire.specs.Walk.{step}
 use Rattle.wire.proofs.Outcome.{go-on, halt}
 use Rattle.bson.specs.Document.{documentAt, maxLevels, told}
 use Rattle.bson.specs.declared.Walk.{Walk}
-use Rattle.opmsg.specs.Answers.{judged, Filled}
+use Rattle.opmsg.specs.Inner.{judged, Filled}
 use Rattle.opmsg.specs.Names.{distinct, elementNames}
 use Rattle.opmsg.specs.declared.Verdict.{Verdict}
 use Rattle.opmsg_body_names.proofs.Elements.{names-turns}
 use Rattle.opmsg_documents.proofs.Fill.{document-filled}
-use Rattle.message_write_checks.specs.Answers.{examined}
+use Rattle.message_write_checks.specs.Inner.{examined}
 
 module _ (s : List ℕ) (w : Walk) (is : told w ≡ documentAt maxLevels 21 s 0) where
   pub body-refused : {number place : ℕ} → w ≡ Walk.Refused number place → examined s ≡ refused number place

@@ -10,7 +10,7 @@ use opmsg_header::MAX_LENGTH;
 use wire::word;
 ghost use mathlib.Core.Path.{_≡_};
 ghost use Rattle.bson.specs.Document.{told};
-ghost use Rattle.message_write_checks.specs.Answers.{Checked, examined};
+ghost use Rattle.message_write_checks.specs.Inner.{Checked, examined};
 
 // The checks before the body is read: 8, 2, 25 and 15.
 pub fn checks(e: Edition, flags: u32, body: &[u8], room: usize) -> Verdict

@@ -9,7 +9,7 @@ ghost use Prim.Native.Nat.{_≤_};
 ghost use lib.ListN.{length};
 ghost use Rattle.message.specs.Message.{wholeLength};
 ghost use Rattle.message.specs.Write.{written};
-ghost use Rattle.message_seal.specs.Over.{over};
+ghost use Rattle.message_seal.specs.Inner.{over};
 
 // Stores a message that has a body alone.
 pub fn written(

@@ -4,5 +4,5 @@ pub mod Sections
 pub mod Names
 pub mod View
 pub mod Read
-pub mod Answers
+pub mod Inner
 pub mod Ping

@@ -13,7 +13,7 @@ use borrow.Author.Tests.{eqb-true, eqb-false, eq-eqb}
 use Rattle.wire.specs.Outcome.{ok, refused}
 use Rattle.wire.proofs.Outcome.{pass, stop}
 use Rattle.opmsg.specs.Names.{Name, sameText, among, distinct, texts}
-use Rattle.opmsg_body_names.specs.Answers.{slotOf, marked, marking, Marks}
+use Rattle.opmsg_body_names.specs.Inner.{slotOf, marked, marking, Marks}
 use Rattle.opmsg.specs.declared.Verdict.{Verdict}
 use Rattle.opmsg.specs.declared.Verdict.the-variants.{Accepted, Refused}
 use Rattle.opmsg_body_names.proofs.Marks.{holds-self, holds-more}

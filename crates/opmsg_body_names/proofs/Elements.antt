@@ -12,8 +12,8 @@ use borrow.Author.Tests.{ne-eqb}
 use Rattle.wire.specs.Outcome.{ok, refused}
 use Rattle.bson_elements.specs.Element.{elementSize}
 use Rattle.opmsg.specs.Names.{Name, sameText, among, distinct, elementNames, texts}
-use Rattle.opmsg.specs.Answers.{Filled, none, more}
-use Rattle.opmsg_body_names.specs.Answers.{nameText, namesOf, slotOf, marked, marking, Marks}
+use Rattle.opmsg.specs.Inner.{Filled, none, more}
+use Rattle.opmsg_body_names.specs.Inner.{nameText, namesOf, slotOf, marked, marking, Marks}
 use Rattle.opmsg_body_names.proofs.Texts.{among-cons, take-cons, drop-next, texts-take}
 use Rattle.opmsg_body_names.proofs.Distinct.{marks-none, Met, met-none, met-unmarked, met-next, met-again, met-all, met-marks}
 

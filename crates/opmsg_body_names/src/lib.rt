@@ -10,8 +10,8 @@ ghost use Prim.Native.Nat.{_+_, _%_, _^_, _<_};
 ghost use lib.ListN.{length, take};
 ghost use Rattle.opmsg.specs.Names.{sameText, among, distinct, elementNames};
 ghost use Rattle.opmsg.specs.declared.Verdict.the-variants.{Accepted};
-ghost use Rattle.opmsg.specs.Answers.{judged, Filled};
-ghost use Rattle.opmsg_body_names.specs.Answers.{nameText, namesOf, spread, slotOf, marked, marking, Marks};
+ghost use Rattle.opmsg.specs.Inner.{judged, Filled};
+ghost use Rattle.opmsg_body_names.specs.Inner.{nameText, namesOf, spread, slotOf, marked, marking, Marks};
 
 // Two texts are the same.
 pub fn same(a: &[u8], b: &[u8]) -> bool

@@ -13,7 +13,7 @@ use Rattle.bson_elements.specs.Element.{element}
 use Rattle.bson.specs.Document.{frame, documentAt}
 use Rattle.bson.proofs.Frame.{document-framed}
 use Rattle.bson.proofs.Element.{element-advances, element-fits, element-over}
-use Rattle.opmsg.specs.Answers.{Filled, none, more}
+use Rattle.opmsg.specs.Inner.{Filled, none, more}
 
 elements-filled : (levels turns at : ℕ) (xs : List ℕ) (count : ℕ) {c : ℕ} → length xs ≤ turns → walk (element (documentAt levels)) turns at xs count ≡ ok c → Filled xs
 elements-filled levels zero at [] count l h = none

@@ -5,7 +5,7 @@ ghost use Prim.Native.Nat.{ℕ, _+_, _^_, _<_, _≤_};
 ghost use lib.ListN.{length};
 ghost use Rattle.wire.specs.Walk.{walk};
 ghost use Rattle.opmsg.specs.Sections.{nextDocument};
-ghost use Rattle.opmsg_documents.specs.Answers.{ran};
+ghost use Rattle.opmsg_documents.specs.Inner.{ran};
 
 // Documents back to back: their number and the elements counted by now, or a refusal.
 pub enum Run {

@@ -11,7 +11,7 @@ ghost use Prim.Native.Nat.{_≤_};
 ghost use lib.ListN.{length};
 ghost use Rattle.opmsg.specs.Layout.{messageLength, checksumDiffers, flagWord};
 ghost use Rattle.opmsg.specs.Read.{flagged};
-ghost use Rattle.opmsg.specs.Answers.{judged};
+ghost use Rattle.opmsg.specs.Inner.{judged};
 
 // There is a checksum, and it is not that of the bytes before it.
 fn checksum_differs(s: &[u8], length: usize, flags: u32) -> bool

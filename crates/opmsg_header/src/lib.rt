@@ -7,7 +7,7 @@ ghost use mathlib.Core.List.{[], _∷_};
 ghost use mathlib.Core.Path.{_≡_};
 ghost use Rattle.wire.specs.Bytes.{oneOf};
 ghost use Rattle.opmsg.specs.Read.{header};
-ghost use Rattle.opmsg.specs.Answers.{judged};
+ghost use Rattle.opmsg.specs.Inner.{judged};
 
 // The most bytes of a message.
 pub const MAX_LENGTH: u32 = 49_152;

@@ -15,8 +15,8 @@ use Rattle.opmsg.specs.Sections.{Section, bodyStart, sequencesOf}
 use Rattle.opmsg.specs.Names.{among, distinct, elementNames, part, bodyNames, identifiers, texts}
 use Rattle.opmsg.specs.View.{padded}
 use Rattle.opmsg.specs.Read.{distinctNames}
-use Rattle.opmsg.specs.Answers.{Shows, Filled}
-use Rattle.opmsg_body_names.specs.Answers.{namesOf}
+use Rattle.opmsg.specs.Inner.{Shows, Filled}
+use Rattle.opmsg_body_names.specs.Inner.{namesOf}
 use Rattle.opmsg.specs.declared.Sequence.{Sequence}
 use Rattle.opmsg_body_names.proofs.Texts.{among-append}
 use Rattle.opmsg_body_names.proofs.Elements.{names-turns, names-of}

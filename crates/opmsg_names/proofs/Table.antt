@@ -10,7 +10,7 @@ use lib.ListN.{length, getD, take, drop, length-take, drop-of-length-le}
 use lib.Seq.{take-take}
 use Rattle.wire.specs.Outcome.{ok, refused}
 use Rattle.opmsg.specs.Names.{Name, sameText, among, distinct, identifier, texts}
-use Rattle.opmsg_body_names.specs.Answers.{slotOf, marked, marking}
+use Rattle.opmsg_body_names.specs.Inner.{slotOf, marked, marking}
 use Rattle.opmsg.specs.View.{noSequence}
 use Rattle.opmsg.specs.declared.Sequence.{Sequence}
 use Rattle.opmsg_body_names.proofs.Texts.{among-cons, among-append, front-next, map-take, map-drop}

@@ -9,8 +9,8 @@ ghost use Prim.Native.Nat.{_+_, _-_, _^_, _<_, _≤_};
 ghost use lib.ListN.{take};
 ghost use Rattle.opmsg.specs.Names.{among, part, identifier, texts, bodyNames, identifiers};
 ghost use Rattle.opmsg.specs.Sections.{Section};
-ghost use Rattle.opmsg.specs.Answers.{Shows, Filled};
-ghost use Rattle.opmsg_body_names.specs.Answers.{namesOf};
+ghost use Rattle.opmsg.specs.Inner.{Shows, Filled};
+ghost use Rattle.opmsg_body_names.specs.Inner.{namesOf};
 
 // n bytes from a place of the message on, or those of them that there are; xs are the bytes from 20 on.
 fn part(xs: &[u8], place: usize, n: usize) -> &[u8]

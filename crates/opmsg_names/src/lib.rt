@@ -16,8 +16,8 @@ ghost use lib.ListN.{take};
 ghost use Rattle.opmsg.specs.Names.{distinct, part, identifier};
 ghost use Rattle.opmsg.specs.Sections.{Section};
 ghost use Rattle.opmsg.specs.Read.{distinctNames};
-ghost use Rattle.opmsg.specs.Answers.{judged, Shows, Filled};
-ghost use Rattle.opmsg_body_names.specs.Answers.{namesOf, Marks};
+ghost use Rattle.opmsg.specs.Inner.{judged, Shows, Filled};
+ghost use Rattle.opmsg_body_names.specs.Inner.{namesOf, Marks};
 
 // Check 24, given the body's elements and the marks of their names.
 fn identifiers_differ(

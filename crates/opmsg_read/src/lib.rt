@@ -13,7 +13,7 @@ use wire::word;
 ghost use mathlib.Core.Path.{_≡_};
 ghost use Rattle.opmsg.specs.View.{answer};
 ghost use Rattle.opmsg.specs.Read.{content, read};
-ghost use Rattle.opmsg_read.specs.Answers.{Ready};
+ghost use Rattle.opmsg_read.specs.Inner.{Ready};
 
 // Checks 10 to 24 of a message whose header and flag word were accepted, and its view.
 fn content(e: Edition, s: &[u8]) -> Reading

@@ -13,8 +13,8 @@ use Rattle.wire.proofs.Walk.{ends, goes-on, stops}
 use Rattle.opmsg.specs.Sections.{maxSequences, Section, body, sequence, bodyStart, bodySize, sequencesOf, Parts, nothing, sectionAt}
 use Rattle.opmsg.specs.Names.{part}
 use Rattle.opmsg.specs.View.{noSequence, padded}
-use Rattle.opmsg.specs.Answers.{Filled, none, Shows}
-use Rattle.opmsg_sequences.specs.Answers.{partOf, Reaches, Carries}
+use Rattle.opmsg.specs.Inner.{Filled, none, Shows}
+use Rattle.opmsg_sequences.specs.Inner.{partOf, Reaches, Carries}
 use Rattle.opmsg.specs.declared.Edition.{Edition}
 use Rattle.opmsg.specs.declared.Sequence.{Sequence}
 use Rattle.opmsg_sequences.specs.declared.Part.{Part}

@@ -11,8 +11,8 @@ ghost use mathlib.Core.Path.{_≡_};
 ghost use Prim.Native.Nat.{ℕ, _+_, _^_, _<_};
 ghost use lib.ListN.{length};
 ghost use Rattle.opmsg.specs.Sections.{Parts, bodySection, sectionAt};
-ghost use Rattle.opmsg_sequences.specs.Answers.{partOf, Reaches, Carries};
-ghost use Rattle.opmsg_sections.specs.Answers.{Listed};
+ghost use Rattle.opmsg_sequences.specs.Inner.{partOf, Reaches, Carries};
+ghost use Rattle.opmsg_sections.specs.Inner.{Listed};
 
 // Kind 0; xs begins with the kind byte. `start` is that of a body passed before, or 0.
 fn body_section(xs: &[u8], at: usize, start: usize, elements: u32) -> Part

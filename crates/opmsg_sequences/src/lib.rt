@@ -9,7 +9,7 @@ ghost use mathlib.Core.Path.{_≡_};
 ghost use Prim.Native.Nat.{ℕ, _+_, _^_, _<_, _≤_};
 ghost use lib.ListN.{length};
 ghost use Rattle.opmsg.specs.Sections.{Parts, sequenceRun, sequenceNamed, sequenceSection};
-ghost use Rattle.opmsg_sequences.specs.Answers.{partOf, Reaches, Carries};
+ghost use Rattle.opmsg_sequences.specs.Inner.{partOf, Reaches, Carries};
 
 // The most sequences of a message.
 pub const MAX_SEQUENCES: usize = 16;

@@ -8,7 +8,7 @@ use Rattle.opmsg.specs.Flags.{kept}
 use Rattle.opmsg.specs.Layout.{messageLength, flagWord}
 use Rattle.opmsg.specs.Sections.{Parts}
 use Rattle.opmsg.specs.View.{viewOf}
-use Rattle.opmsg.specs.Answers.{Shows}
+use Rattle.opmsg.specs.Inner.{Shows}
 use Rattle.opmsg.specs.declared.Edition.{Edition}
 use Rattle.opmsg.specs.declared.View.{View}
 

@@ -15,7 +15,7 @@ ghost use Rattle.wire.specs.Outcome.{refused};
 ghost use Rattle.wire.specs.Bytes.{wordAt, signed};
 ghost use Rattle.opmsg.specs.Sections.{Parts};
 ghost use Rattle.opmsg.specs.View.{noView, viewOf, answer};
-ghost use Rattle.opmsg.specs.Answers.{Shows};
+ghost use Rattle.opmsg.specs.Inner.{Shows};
 
 // What a refusal shows: nothing.
 fn no_view() -> View

@@ -10,15 +10,15 @@ use mir.Syntax.{w32}
 use mir.Val.{SFits}
 use Rattle.wire.specs.Outcome.{Outcome, ok, refused, _>>=_}
 use Rattle.opmsg.specs.View.{answer}
-use Rattle.opmsg.specs.Answers.{judged}
+use Rattle.opmsg.specs.Inner.{judged}
 use Rattle.opmsg.specs.declared.Edition.{Edition}
 use Rattle.opmsg.specs.declared.Verdict.{Verdict}
 use Rattle.opmsg.specs.declared.Verdict.the-variants.{Accepted, Refused}
 use Rattle.opmsg.specs.declared.Reading.{Reading}
 use Rattle.message.specs.Message.{Written, viewed, output}
 use Rattle.message.specs.Write.{write}
-use Rattle.message_write.specs.Answers as writing
-use Rattle.message_append.specs.Decided.{Decided}
+use Rattle.message_write.specs.Inner as writing
+use Rattle.message_append.specs.Inner.{Decided}
 use Rattle.relay_c_results.specs.Numbers.{viewNumbers, viewSize}
 use Rattle.relay_c_results.specs.Interface.{outcome, withRoom, result, numbers}
 use Rattle.relay_c_results.proofs.Room.{outcome-answer, own-refusal, no-room, has-room}

@@ -8,7 +8,7 @@ use opmsg::Verdict;
 ghost use mathlib.Core.Path.{_≡_};
 ghost use Prim.Native.Nat.{_+_, _*_, _%_, _^_};
 ghost use lib.ListN.{length};
-ghost use Rattle.opmsg.specs.Answers.{judged};
+ghost use Rattle.opmsg.specs.Inner.{judged};
 ghost use Rattle.relay_c_results.specs.Interface.{editionOf, outcome, withRoom, result, numbers};
 
 // How many numbers a view takes.

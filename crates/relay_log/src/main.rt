@@ -7,7 +7,7 @@ use relay::Summary;
 ghost use mathlib.Core.Path.{_≡_};
 ghost use Prim.Native.Nat.{_+_, _-_, _<_, _≤_};
 ghost use lib.ListN.{length};
-ghost use Rattle.relay_log.specs.Held.{bufferLength, turns, Held};
+ghost use Rattle.relay_log.specs.Inner.{bufferLength, turns, Held};
 
 // Where a run stands: the bytes at hand are those of the buffer from `at` to `end`, and `offset` counts those before them.
 struct Run {

@@ -10,8 +10,8 @@ use Rattle.wire.proofs.Outcome.{not-ok, ok-same}
 use Rattle.wire.proofs.Bytes.{until-le}
 use Rattle.wire.proofs.Parts.{rest-part}
 use Rattle.bson_values.specs.Value.{Rule}
-use Rattle.bson_values.specs.Answers.{ruleOf}
-use Rattle.bson_skip.specs.Answers.{span}
+use Rattle.bson_values.specs.Inner.{ruleOf}
+use Rattle.bson_skip.specs.Inner.{span}
 use Rattle.bson_skip.proofs.Span.{Passed, element-is}
 use Rattle.bson_skip.proofs.element_size.Statement.{statement}
 use Rattle.bson_skip.proofs.element_size.Tie as tie

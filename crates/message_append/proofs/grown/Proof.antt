@@ -1,7 +1,7 @@
 -- `message_append::grown` meets its contract: the sequence is stored behind the others.
 -- Assumes nothing.
 use borrow.Author.Needs.{needs}
-use Rattle.message_append_checks.specs.Grown.{entry, grown}
+use Rattle.message_append_checks.specs.Inner.{entry, grown}
 use Rattle.message_append.proofs.grown.Statement.{statement}
 use Rattle.message_append.proofs.grown.Tie as tie
 

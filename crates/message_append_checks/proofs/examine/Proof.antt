@@ -5,10 +5,10 @@ use mathlib.Core.Path.{sym, ap, _∙_}
 use native.Mathlib.Omega.{arith}
 use borrow.Author.Needs.{needs}
 use Rattle.opmsg.specs.Sections.{maxSequences}
-use Rattle.opmsg.specs.Answers.{judged}
+use Rattle.opmsg.specs.Inner.{judged}
 use Rattle.opmsg.proofs.Limits.{maxLength-small}
-use Rattle.opmsg_documents.specs.Answers.{ran}
-use Rattle.message_append_checks.specs.Grown.{Ready}
+use Rattle.opmsg_documents.specs.Inner.{ran}
+use Rattle.message_append_checks.specs.Inner.{Ready}
 use Rattle.message_append_checks.proofs.Appending.{allows}
 use Rattle.message_append_checks.proofs.Answers.{checksum-within, checks-refuse, documents-refuse, documents-ready, ready-allowed, ready-low, ready-inside, ready-filled, ready-body, ready-taken, ready-grown}
 use Rattle.message_append_checks.proofs.examine.Statement.{statement}

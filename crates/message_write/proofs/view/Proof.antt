@@ -4,7 +4,7 @@ use mir.Facts.{toZ-ofZ}
 use borrow.Author.Needs.{needs}
 use Rattle.opmsg.specs.Sections.{maxSequences}
 use Rattle.opmsg.specs.View.{padded}
-use Rattle.message_write.specs.Answers.{shown}
+use Rattle.message_write.specs.Inner.{shown}
 use Rattle.message_write.proofs.view.Statement.{statement}
 use Rattle.message_write.proofs.view.Tie as tie
 

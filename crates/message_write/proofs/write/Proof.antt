@@ -11,7 +11,7 @@ use Rattle.bson.specs.Document.{told}
 use Rattle.opmsg.specs.View.{answer}
 use Rattle.opmsg.proofs.Limits.{maxLength-small}
 use Rattle.message.specs.Message.{wholeLength, viewed, output}
-use Rattle.message_write_checks.specs.Answers.{Fit}
+use Rattle.message_write_checks.specs.Inner.{Fit}
 use Rattle.message_write.proofs.Written.{write-refused, write-accepted}
 use Rattle.message_write.proofs.write.Statement.{statement}
 use Rattle.message_write.proofs.write.Tie as tie

@@ -10,7 +10,7 @@ use borrow.Author.Needs.{needs}
 use Rattle.bson_elements.specs.Element.{elementSize}
 use Rattle.wire.proofs.Parts.{rest-part}
 use Rattle.opmsg.specs.Names.{among}
-use Rattle.opmsg_body_names.specs.Answers.{nameText, namesOf}
+use Rattle.opmsg_body_names.specs.Inner.{nameText, namesOf}
 use Rattle.opmsg_body_names.proofs.Distinct.{not-accepted}
 use Rattle.opmsg_body_names.proofs.Elements.{Reached, reached-size, reached-next, Listed, listed-none, listed-unmarked, listed-again, listed-next, listed-all, listed-marks}
 use Rattle.opmsg_body_names.proofs.body_names.Statement.{statement}

@@ -1,7 +1,7 @@
 -- `opmsg_body_names::mark` meets its contract.
 -- Assumes nothing.
 use borrow.Author.Needs.{needs}
-use Rattle.opmsg_body_names.specs.Answers.{marked, marking}
+use Rattle.opmsg_body_names.specs.Inner.{marked, marking}
 use Rattle.opmsg_body_names.proofs.Distinct.{slot-small}
 use Rattle.opmsg_body_names.proofs.mark.Statement.{statement}
 use Rattle.opmsg_body_names.proofs.mark.Tie as tie

@@ -5,7 +5,7 @@ use lib.Seq.{length-take-le}
 use borrow.Author.Needs.{needs}
 use Rattle.wire.proofs.Bytes.{until-le}
 use Rattle.wire.proofs.Parts.{rest-part}
-use Rattle.opmsg_body_names.specs.Answers.{nameText}
+use Rattle.opmsg_body_names.specs.Inner.{nameText}
 use Rattle.opmsg_body_names.proofs.name.Statement.{statement}
 use Rattle.opmsg_body_names.proofs.name.Tie as tie
 

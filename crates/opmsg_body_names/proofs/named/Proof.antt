@@ -9,7 +9,7 @@ use borrow.Author.Needs.{needs}
 use Rattle.bson_elements.specs.Element.{elementSize}
 use Rattle.wire.proofs.Parts.{rest-part}
 use Rattle.opmsg.specs.Names.{sameText}
-use Rattle.opmsg_body_names.specs.Answers.{nameText}
+use Rattle.opmsg_body_names.specs.Inner.{nameText}
 use Rattle.opmsg_body_names.proofs.Elements.{Sought, reached-size, reached-next, sought-none, sought-end, sought-all, sought-found, sought-next}
 use Rattle.opmsg_body_names.proofs.named.Statement.{statement}
 use Rattle.opmsg_body_names.proofs.named.Tie as tie

@@ -6,7 +6,7 @@ use native.Mathlib.Omega.{arith}
 use lib.ListN.{length}
 use borrow.Author.Needs.{needs}
 use Rattle.wire.proofs.Parts.{rest-part}
-use Rattle.opmsg_body_names.specs.Answers.{slotOf}
+use Rattle.opmsg_body_names.specs.Inner.{slotOf}
 use Rattle.opmsg_body_names.proofs.slot.Statement.{statement}
 use Rattle.opmsg_body_names.proofs.slot.Tie as tie
 

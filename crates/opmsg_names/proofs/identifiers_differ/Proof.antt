@@ -6,7 +6,7 @@ use mathlib.Core.Path.{_≡_, sym, _∙_}
 use native.Mathlib.Omega.{arith}
 use lib.ListN.{length}
 use borrow.Author.Needs.{needs}
-use Rattle.opmsg_body_names.specs.Answers.{namesOf}
+use Rattle.opmsg_body_names.specs.Inner.{namesOf}
 use Rattle.opmsg_body_names.proofs.Distinct.{Met, met-none}
 use Rattle.opmsg_names.proofs.Table.{firstIdentifiers, differ-all, differ-again, differ-unmarked, differ-new}
 use Rattle.opmsg_names.proofs.identifiers_differ.Statement.{statement}

@@ -8,7 +8,7 @@ use Rattle.wire.proofs.Parts.{rest-part}
 use Rattle.opmsg.specs.Layout.{checksumSize}
 use Rattle.opmsg.specs.Sections.{maxSequences}
 use Rattle.opmsg.specs.View.{answer}
-use Rattle.opmsg.specs.Answers.{judged}
+use Rattle.opmsg.specs.Inner.{judged}
 use Rattle.opmsg.proofs.Limits.{maxLength-small}
 use Rattle.opmsg_read.proofs.Assembled.{refused-sections, refused-names, shown}
 use Rattle.opmsg_read.proofs.content.Statement.{statement}

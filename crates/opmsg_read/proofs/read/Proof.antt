@@ -5,7 +5,7 @@ use borrow.Author.Needs.{needs}
 use Rattle.wire.proofs.Outcome.{go-on, halt}
 use Rattle.opmsg.specs.View.{answer}
 use Rattle.opmsg.specs.Read.{read}
-use Rattle.opmsg.specs.Answers.{judged}
+use Rattle.opmsg.specs.Inner.{judged}
 use Rattle.opmsg.proofs.Accepted.{headed, flags-passed}
 use Rattle.opmsg_read.proofs.read.Statement.{statement}
 use Rattle.opmsg_read.proofs.read.Tie as tie

@@ -3,7 +3,7 @@
 use mathlib.Core.Path.{ap}
 use native.Mathlib.Omega.{arith}
 use borrow.Author.Needs.{needs}
-use Rattle.opmsg.specs.Answers.{judged}
+use Rattle.opmsg.specs.Inner.{judged}
 use Rattle.relay_c_results.specs.Numbers.{viewSize}
 use Rattle.relay_c_results.specs.Interface.{result}
 use Rattle.relay_c_results.proofs.Room.{own-refusal, no-room}

@@ -4,7 +4,7 @@ use Prim.Native.Nat.{_+_, _≤_}
 use mathlib.Core.Path.{_≡_}
 use lib.ListN.{length}
 use borrow.Author.Needs.{needs}
-use Rattle.relay_log.specs.Held.{bufferLength, turns, Held}
+use Rattle.relay_log.specs.Inner.{bufferLength, turns, Held}
 use Rattle.relay_log.proofs.list.Statement.{statement}
 use Rattle.relay_log.proofs.list.Tie as tie
 

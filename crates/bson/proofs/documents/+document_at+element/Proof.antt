@@ -18,7 +18,7 @@ use Rattle.wire.proofs.Parts.{rest-part}
 use Rattle.wire.proofs.Walk.{ends, goes-on, stops}
 use Rattle.bson_elements.specs.Element.{inside, element}
 use Rattle.bson.specs.Document.{told, documentAt}
-use Rattle.bson_elements.specs.Answers.{outline}
+use Rattle.bson_elements.specs.Inner.{outline}
 use Rattle.bson.proofs.Levels.{document-past, few, no-level, shut, opens}
 use Rattle.bson.proofs.documents.document_at.Reads as document-at
 use Rattle.bson.proofs.documents.document_at.Kinds as document-at-kinds

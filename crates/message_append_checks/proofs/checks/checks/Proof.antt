@@ -10,7 +10,7 @@ use Rattle.wire.specs.Outcome.{refuse, _>>=_}
 use Rattle.opmsg.specs.Flags.{knows}
 use Rattle.opmsg.specs.Layout.{maxLength}
 use Rattle.opmsg.specs.Sections.{maxSequences}
-use Rattle.message_append_checks.specs.Grown.{allowed}
+use Rattle.message_append_checks.specs.Inner.{allowed}
 use Rattle.message_append_checks.proofs.checks.checks.Statement.{statement}
 use Rattle.message_append_checks.proofs.checks.checks.Tie as tie
 

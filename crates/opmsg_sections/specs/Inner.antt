@@ -11,7 +11,7 @@ use Rattle.opmsg.specs.declared.Edition.{Edition}
 use Rattle.opmsg.specs.declared.Verdict.{Verdict}
 use Rattle.opmsg.specs.declared.Content.{Content}
 use Rattle.opmsg.specs.declared.Verdict.the-variants.{Accepted, Refused}
-use Rattle.opmsg.specs.Answers.{Shows, Filled}
+use Rattle.opmsg.specs.Inner.{Shows, Filled}
 
 -- all sections of xs, which start at 20: the definition's parts are those that code keeps; elements fill the body
 pub record Gathered (e : Edition) (xs : List ℕ) (c : Content) : Type 0 where

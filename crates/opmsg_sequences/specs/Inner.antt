@@ -7,7 +7,7 @@ use lib.ListN.{take, drop}
 use Rattle.wire.specs.Outcome.{Outcome, refused}
 use Rattle.wire.specs.Walk.{Step}
 use Rattle.opmsg.specs.Sections.{body, sequence, bodyStart, sequencesOf, Parts, behind}
-use Rattle.opmsg.specs.Answers.{Filled}
+use Rattle.opmsg.specs.Inner.{Filled}
 use Rattle.opmsg_sequences.specs.declared.Part.{Part}
 
 -- a section at a place, behind those passed

@@ -1,12 +1,12 @@
--- What an append checks behind reading, and what its view shows.
+-- What an append checks behind reading, what its view shows, and what is known once its parts are examined.
 -- Assumes nothing: these are definitions.
-use Prim.Native.Nat.{ℕ, _+_}
+use Prim.Native.Nat.{ℕ, _+_, _-_}
 use mathlib.Core.Bool.{not}
-use mathlib.Core.List.{List}
+use mathlib.Core.List.{List, _++_}
 use mathlib.Core.Path.{_≡_}
-use lib.ListN.{length, set}
+use lib.ListN.{length, set, take, drop}
 use lib.Dec.{ltb, leb, eqb}
-use Rattle.wire.specs.Outcome.{Outcome, ok, refuse, _>>=_}
+use Rattle.wire.specs.Outcome.{Outcome, ok, refuse, _>>=_, refused}
 use Rattle.wire.specs.Bytes.{untilZero}
 use Rattle.wire.specs.Walk.{walk}
 use Rattle.opmsg.specs.Flags.{knows}
@@ -16,6 +16,9 @@ use Rattle.opmsg.specs.Read.{read}
 use Rattle.opmsg.specs.declared.Edition.{Edition}
 use Rattle.opmsg.specs.declared.Sequence.{Sequence}
 use Rattle.opmsg.specs.declared.View.{View}
+use Rattle.message.specs.Append.{sequenceBytes, appended, append}
+use Rattle.message_append_checks.specs.declared.Found.{Found}
+use Rattle.message_append_checks.specs.declared.Found.the-variants as found
 
 -- the checks between reading the message and reading the new one, which has `whole` bytes; the sections end at a place, and `count` sequences are there
 unfoldable pub allowed : Edition → (end count : ℕ) → (identifier : List ℕ) → (whole room : ℕ) → Outcome (Unit {0})
@@ -52,3 +55,10 @@ pub record Ready (e : Edition) (s identifier documents : List ℕ) (v : View) (e
   pub passed : allowed e end (v .«sequence_count») identifier (v .length + (length identifier + 6 + length documents)) room ≡ ok tt
   pub counted : walk nextDocument (length documents) (end + (length identifier + 6)) documents (record { documents = 0; elements = v .elements })
       ≡ ok (record { documents = number; elements = elements })
+
+-- the message that grows by an identifier and documents, or the refusal
+abbrev pub Examined : Edition → (s : List ℕ) → View → (identifier documents : List ℕ) → (room : ℕ) → Found → Type 0
+Examined e s v identifier documents room (found.New end number elements) = Ready e s identifier documents v end number elements room
+    × (append e s identifier documents room
+    ≡ ok (record { view = grown v end (length identifier) (length documents) number elements; bytes = appended s (v .flags) (take (end - 20) (drop 20 s) ++ sequenceBytes identifier documents) }))
+Examined e s v identifier documents room (found.Refused number place) = append e s identifier documents room ≡ refused number place
