@@ -15,7 +15,7 @@ use Rattle.wire.proofs.Outcome.{ok-same, went, passed, pass, bound, go-on}
 use Rattle.wire.proofs.Walk.{Advances, step-size}
 use Rattle.bson_values.specs.Value.{Value, plain, embedded, scoped}
 use Rattle.bson_elements.specs.Element.{maxElements, Head, head, inside, element, sizeOf, over, elementSize}
-use Rattle.bson_values.proofs.Value.{Within, type-fits}
+use Rattle.bson_values.proofs.Value.{ValueWithin, type-fits}
 use Rattle.bson.proofs.Steady.{Frames}
 
 -- some elements are allowed
@@ -27,7 +27,7 @@ some-elements = omega arith
 record HeadRead (xs : List ℕ) (h : Head) : Type 0 where
   least : 2 ≤ h .start
   fits : h .start ≤ length xs
-  value : Within (h .value) (drop (h .start) xs)
+  value : ValueWithin (h .value) (drop (h .start) xs)
   anywhere : (at count : ℕ) → count < maxElements → head at xs count ≡ ok h
 
 head-read : (at : ℕ) (xs : List ℕ) (count : ℕ) (h : Head) → head at xs count ≡ ok h → HeadRead xs h
@@ -59,7 +59,7 @@ element-advances document at xs count r e =
     omega (arith, head-read at xs count h eh .least, step-size fi)
 
 module _ (document : Reader ℕ) (framed : Frames document) where
-  inside-fits : (v : ℕ) (xs : List ℕ) (count : ℕ) (x : Value) (r : Step ℕ) → Within x xs → inside document v xs count x ≡ ok r → r .size ≤ length xs
+  inside-fits : (v : ℕ) (xs : List ℕ) (count : ℕ) (x : Value) (r : Step ℕ) → ValueWithin x xs → inside document v xs count x ≡ ok r → r .size ≤ length xs
   unfolding inside
   inside-fits v xs count (plain size) r f h = omega (arith, step-size h)
   inside-fits v xs count embedded r f h = framed v xs count r h .fits

@@ -11,7 +11,7 @@ use Rattle.wire.specs.Walk.{Step, step, walk}
 use Rattle.wire.proofs.Outcome.{not-ok, ok-same, bound, check-leb}
 use Rattle.bson_elements.specs.Element.{Head, head, element, maxElements}
 use Rattle.bson.specs.Document.{frame, documentAt, told}
-use Rattle.bson.specs.Inner.{alone}
+use Rattle.bson.specs.Inner.{withoutElements}
 use Rattle.bson.specs.declared.Walk.{Walk}
 use Rattle.bson.proofs.Frame.{Framed, frame-is, document-framed}
 
@@ -29,7 +29,7 @@ pub no-level : (levels at : ℕ) (xs : List ℕ) (count : ℕ) → levels ≡ 0 
 unfolding documentAt
 no-level levels at xs count e = rw e
 
-module _ (at : ℕ) (xs : List ℕ) (count : ℕ) (w : Walk) (e : told w ≡ alone (frame at xs) count) where
+module _ (at : ℕ) (xs : List ℕ) (count : ℕ) (w : Walk) (e : told w ≡ withoutElements (frame at xs) count) where
   shut-frame : (number place : ℕ) → w ≡ Walk.Refused number place → (o : Outcome ℕ) → frame at xs ≡ o → frame at xs ≡ refused number place
   unfolding _>>=_
   shut-frame number place h (ok n) f = not-ok (sym (ap told h) ∙ rw f at e)

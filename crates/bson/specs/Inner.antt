@@ -6,8 +6,8 @@ use Rattle.wire.specs.Walk.{Step, step}
 use Rattle.bson.specs.declared.Walk.{Walk}
 
 -- so many bytes, with no element counted in them
-abbrev pub alone : Outcome ℕ → (count : ℕ) → Outcome (Step ℕ)
-alone size count = do
+abbrev pub withoutElements : Outcome ℕ → (count : ℕ) → Outcome (Step ℕ)
+withoutElements size count = do
   n ← size
   step n count
 

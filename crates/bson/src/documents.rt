@@ -9,7 +9,7 @@ ghost use Prim.Native.Nat.{_+_, _^_, _<_};
 ghost use lib.ListN.{length};
 ghost use Rattle.bson_elements.specs.Element.{element};
 ghost use Rattle.bson.specs.Document.{told, frame, documentAt};
-ghost use Rattle.bson.specs.Inner.{alone, Spans};
+ghost use Rattle.bson.specs.Inner.{withoutElements, Spans};
 
 fn refused(number: u32, place: usize) -> Walk
     ensures { λ r. ⌜ r ≡ Walk.Refused number place ⌝ }
@@ -20,7 +20,7 @@ fn refused(number: u32, place: usize) -> Walk
 // The length and the last byte of a document.
 fn frame(s: &[u8], at: usize, count: u32) -> Walk
     requires { ⌜ at + length (now s) < 2 ^ 64 ⌝ }
-    ensures { λ r. ⌜ told r ≡ alone (frame at (now (s .entry))) count ⌝ }
+    ensures { λ r. ⌜ told r ≡ withoutElements (frame at (now (s .entry))) count ⌝ }
 {
     if s.len() < 4 {
         return refused(15, at);

@@ -13,11 +13,11 @@ outline (Outline.Embedded start) = ok (record { start = start; value = embedded 
 outline (Outline.Scoped start from size) = ok (record { start = start; value = scoped from size })
 outline (Outline.Refused number place) = refused number place
 
-abbrev pub Lies : (n : ℕ) → Outline → Type 0
-Lies n (Outline.Plain start size) = (2 ≤ start) × (start + size ≤ n)
-Lies n (Outline.Embedded start) = (2 ≤ start) × (start ≤ n)
-Lies n (Outline.Scoped start from size) = (2 ≤ start) × (from ≤ size) × (start + size ≤ n)
-Lies n (Outline.Refused number place) = Unit {0}
+abbrev pub OutlineWithin : (n : ℕ) → Outline → Type 0
+OutlineWithin n (Outline.Plain start size) = (2 ≤ start) × (start + size ≤ n)
+OutlineWithin n (Outline.Embedded start) = (2 ≤ start) × (start ≤ n)
+OutlineWithin n (Outline.Scoped start from size) = (2 ≤ start) × (from ≤ size) × (start + size ≤ n)
+OutlineWithin n (Outline.Refused number place) = Unit {0}
 
 -- the same element by where its value starts, and what that is
 abbrev pub begins : (start : ℕ) → Outcome Value → Outcome Head

@@ -1,5 +1,5 @@
 // Elements, but for the documents in them.
-use bson_values::Found;
+use bson_values::Lookup;
 use bson_values::Shape;
 use bson_values::kind_of;
 use bson_values::unlisted;
@@ -8,9 +8,9 @@ use wire::until_zero;
 ghost use mathlib.Core.Path.{_≡_};
 ghost use Prim.Native.Nat.{ℕ, _+_, _^_, _<_, _≤_};
 ghost use lib.ListN.{length};
-ghost use Rattle.bson_values.specs.Inner.{shape, Inside};
+ghost use Rattle.bson_values.specs.Inner.{shape, ShapeWithin};
 ghost use Rattle.bson_elements.specs.Element.{head};
-ghost use Rattle.bson_elements.specs.Inner.{outline, begins, Lies};
+ghost use Rattle.bson_elements.specs.Inner.{outline, begins, OutlineWithin};
 
 // The most elements of a message.
 pub const MAX_ELEMENTS: u32 = 4096;
@@ -35,7 +35,7 @@ pub enum Outline {
 // An element whose value starts there, at that place of the message, and has that shape.
 fn outline_of(start: usize, place: usize, value: Shape) -> Outline
     ensures is { λ r. ⌜ outline r ≡ begins start (shape place value) ⌝ }
-    ensures inside { λ r. ⌜ ((n : ℕ) → 2 ≤ start → Inside n value → Lies (start + n) r) ⌝ }
+    ensures inside { λ r. ⌜ ((n : ℕ) → 2 ≤ start → ShapeWithin n value → OutlineWithin (start + n) r) ⌝ }
 {
     match value {
         Shape::Plain(size) => Outline::Plain { start, size },
@@ -49,7 +49,7 @@ fn outline_of(start: usize, place: usize, value: Shape) -> Outline
 pub fn head(s: &[u8], at: usize, count: u32) -> Outline
     requires { ⌜ (0 < length (now s)) × (at + length (now s) < 2 ^ 64) ⌝ }
     ensures is { λ r. ⌜ outline r ≡ head at (now (s .entry)) count ⌝ }
-    ensures inside { λ r. ⌜ Lies (length (now (s .entry))) r ⌝ }
+    ensures inside { λ r. ⌜ OutlineWithin (length (now (s .entry))) r ⌝ }
 {
     if count >= MAX_ELEMENTS {
         return Outline::Refused(21, at);
@@ -63,7 +63,7 @@ pub fn head(s: &[u8], at: usize, count: u32) -> Outline
         return Outline::Refused(18, at + 1);
     }
     let start = n + 2;
-    let Found::Listed(kind) = kind_of(t) else {
+    let Lookup::Listed(kind) = kind_of(t) else {
         return Outline::Refused(17, at);
     };
     outline_of(start, at + start, value_of(kind, &s[start..]))

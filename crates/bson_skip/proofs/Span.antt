@@ -17,7 +17,7 @@ use Rattle.bson_elements.specs.Element.{Head, head, inside, element, sizeOf, ov
 
 record HeadIs (xs : List ℕ) (h : Head) : Type 0 where
   rule : Rule
-  listed : ruleIn table 0 (getD xs 0 0) ≡ ok rule
+  ruleFound : ruleIn table 0 (getD xs 0 0) ≡ ok rule
   named : 1 + untilZero (drop 1 xs) < length xs
   starts : h .start ≡ untilZero (drop 1 xs) + 2
   kept : rule (0 + (untilZero (drop 1 xs) + 2)) (drop (untilZero (drop 1 xs) + 2) xs) ≡ ok (h .value)
@@ -32,7 +32,7 @@ head-is xs h e =
     let is : record { start = untilZero (drop 1 xs) + 2; value = value .0 } ≡ h = ok-same (value .2) in
     rw (← is) (record {
       rule = rule .0;
-      listed = rule .1;
+      ruleFound = rule .1;
       named = leb-false (length xs) (1 + untilZero (drop 1 xs)) (d .0);
       starts = refl;
       kept = value .1;
@@ -49,7 +49,7 @@ inside-is v xs count (scoped start size) r h =
 pub record Passed (xs : List ℕ) : Type 0 where
   pub rule : Rule
   pub value : Value
-  pub listed : ruleIn table 0 (getD xs 0 0) ≡ ok rule
+  pub ruleFound : ruleIn table 0 (getD xs 0 0) ≡ ok rule
   pub named : 1 + untilZero (drop 1 xs) < length xs
   pub kept : rule (0 + (untilZero (drop 1 xs) + 2)) (drop (untilZero (drop 1 xs) + 2) xs) ≡ ok value
   pub is : elementSize xs ≡ untilZero (drop 1 xs) + 2 + span (drop (untilZero (drop 1 xs) + 2) xs) value
@@ -67,7 +67,7 @@ element-is xs positive = go (element over 0 xs 0) refl positive
         record {
           rule = k .rule;
           value = c .0 .value;
-          listed = k .listed;
+          ruleFound = k .ruleFound;
           named = k .named;
           kept = k .kept;
           is = ap sizeOf e ∙ step-size (d .2) ∙ rw (i, k .starts);

@@ -1,7 +1,7 @@
 // Elements that were read, passed over.
 use bson_values::Extent;
-use bson_values::Found;
 use bson_values::Kind;
+use bson_values::Lookup;
 use bson_values::kind_of;
 use bson_values::regex;
 use wire::until_zero;
@@ -16,7 +16,7 @@ ghost use Rattle.bson_elements.specs.Element.{elementSize};
 ghost use Rattle.bson_skip.specs.Inner.{span};
 
 // The bytes of something that keeps its rule.
-fn taken(e: Extent) -> usize
+fn extent_size(e: Extent) -> usize
     ensures { λ r. ⌜ ((v n : ℕ) → extent v e ≡ ok n → r ≡ n) ⌝ }
 {
     match e {
@@ -34,7 +34,7 @@ fn skip(k: Kind, s: &[u8]) -> usize
         Kind::Boolean => 1,
         Kind::String => 4 + word(s) as usize,
         Kind::Binary => 5 + word(s) as usize,
-        Kind::Regex => taken(regex(s)),
+        Kind::Regex => extent_size(regex(s)),
         Kind::Pointer => 16 + word(s) as usize,
         Kind::Embedded => word(s) as usize,
         Kind::Code => word(s) as usize,
@@ -53,7 +53,7 @@ pub fn element_size(s: &[u8]) -> usize
         return 0;
     }
     let start = n + 2;
-    let Found::Listed(kind) = kind_of(s[0]) else {
+    let Lookup::Listed(kind) = kind_of(s[0]) else {
         return 0;
     };
     let size = skip(kind, &s[start..]);

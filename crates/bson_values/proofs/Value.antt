@@ -71,14 +71,14 @@ unfolding pointer
 pointer-fits = joined string (λ v xs. sized v 12 xs) string-fits (sized-fits 12)
 
 -- a value that fits
-abbrev pub Within : Value → List ℕ → Type 0
-Within (plain n) xs = n ≤ length xs
-Within embedded xs = Unit {0}
-Within (scoped start size) xs = (start ≤ size) × (size ≤ length xs)
+abbrev pub ValueWithin : Value → List ℕ → Type 0
+ValueWithin (plain n) xs = n ≤ length xs
+ValueWithin embedded xs = Unit {0}
+ValueWithin (scoped start size) xs = (start ≤ size) × (size ≤ length xs)
 
 -- a rule whose values fit, and are the same at any place
 abbrev pub RuleFits : Rule → Type 0
-RuleFits f = (v w : ℕ) (xs : List ℕ) (x : Value) → f v xs ≡ ok x → (f w xs ≡ ok x) × Within x xs
+RuleFits f = (v w : ℕ) (xs : List ℕ) (x : Value) → f v xs ≡ ok x → (f w xs ≡ ok x) × ValueWithin x xs
 
 bytes-fits : (f : ℕ → List ℕ → Outcome ℕ) → Fits f → RuleFits (λ v xs. bytes (f v xs))
 bytes-fits f i v w xs x h =

@@ -8,16 +8,16 @@ use Rattle.bson_values.specs.Value.{Value, plain, embedded, scoped, size
 use Rattle.bson_values.specs.declared.Extent.{Extent}
 use Rattle.bson_values.specs.declared.Shape.{Shape}
 use Rattle.bson_values.specs.declared.Kind.{Kind}
-use Rattle.bson_values.specs.declared.Found.{Found}
+use Rattle.bson_values.specs.declared.Lookup.{Lookup}
 
 -- a number of bytes of the value at place v, which lies within n bytes
 abbrev pub extent : (v : ℕ) → Extent → Outcome ℕ
 extent v (Extent.Takes n) = ok n
 extent v Extent.Broken = refused 19 v
 
-abbrev pub Within : (n : ℕ) → Extent → Type 0
-Within n (Extent.Takes m) = m ≤ n
-Within n Extent.Broken = Unit {0}
+abbrev pub ExtentWithin : (n : ℕ) → Extent → Type 0
+ExtentWithin n (Extent.Takes m) = m ≤ n
+ExtentWithin n Extent.Broken = Unit {0}
 
 -- the value at place v, which lies within n bytes
 abbrev pub shape : (v : ℕ) → Shape → Outcome Value
@@ -26,11 +26,11 @@ shape v Shape.Embedded = ok embedded
 shape v (Shape.Scoped start size) = ok (scoped start size)
 shape v Shape.Faulty = refused 19 v
 
-abbrev pub Inside : (n : ℕ) → Shape → Type 0
-Inside n (Shape.Plain size) = size ≤ n
-Inside n Shape.Embedded = Unit {0}
-Inside n (Shape.Scoped start size) = (start ≤ size) × (size ≤ n)
-Inside n Shape.Faulty = Unit {0}
+abbrev pub ShapeWithin : (n : ℕ) → Shape → Type 0
+ShapeWithin n (Shape.Plain size) = size ≤ n
+ShapeWithin n Shape.Embedded = Unit {0}
+ShapeWithin n (Shape.Scoped start size) = (start ≤ size) × (size ≤ n)
+ShapeWithin n Shape.Faulty = Unit {0}
 
 -- a row of the table, and that of a type at a place
 abbrev pub ruleOf : Kind → Rule
@@ -43,9 +43,9 @@ ruleOf Kind.Pointer v xs = bytes (pointer v xs)
 ruleOf Kind.Embedded v xs = ok embedded
 ruleOf Kind.Code v xs = codeWithScope v xs
 
-abbrev pub listed : (at : ℕ) → Found → Outcome Rule
-listed at (Found.Listed k) = ok (ruleOf k)
-listed at Found.Unlisted = refused 17 at
+abbrev pub ruleFound : (at : ℕ) → Lookup → Outcome Rule
+ruleFound at (Lookup.Listed k) = ok (ruleOf k)
+ruleFound at Lookup.Unlisted = refused 17 at
 
 -- whether a type stands in no row
 abbrev pub Unlisted : (t : ℕ) → Bool → Type 0

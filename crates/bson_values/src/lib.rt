@@ -6,7 +6,7 @@ ghost use mathlib.Core.Path.{_≡_};
 ghost use Prim.Native.Nat.{ℕ, _<_};
 ghost use lib.ListN.{length};
 ghost use Rattle.bson_values.specs.Value.{sized, boolean, cstring, string, binary, regex, pointer, codeWithScope, bytes, table, ruleIn};
-ghost use Rattle.bson_values.specs.Inner.{extent, Within, shape, Inside, ruleOf, listed, Unlisted};
+ghost use Rattle.bson_values.specs.Inner.{extent, ExtentWithin, shape, ShapeWithin, ruleOf, ruleFound, Unlisted};
 
 // How many bytes something takes; or it breaks its rule.
 pub enum Extent {
@@ -35,7 +35,7 @@ pub enum Kind {
 }
 
 // The row of a type, if it has one.
-pub enum Found {
+pub enum Lookup {
     Listed(Kind),
     Unlisted,
 }
@@ -60,43 +60,43 @@ pub fn unlisted(t: u8) -> bool
 }
 
 // The row of a type above 0x13: the keys.
-fn key(t: u8) -> Found
-    ensures { λ r. ⌜ (0x13 < t → (at : ℕ) → listed at r ≡ ruleIn table at t) ⌝ }
+fn key(t: u8) -> Lookup
+    ensures { λ r. ⌜ (0x13 < t → (at : ℕ) → ruleFound at r ≡ ruleIn table at t) ⌝ }
 {
     match t {
-        0x7F | 0xFF => Found::Listed(Kind::Bytes(0)),
-        _ => Found::Unlisted,
+        0x7F | 0xFF => Lookup::Listed(Kind::Bytes(0)),
+        _ => Lookup::Unlisted,
     }
 }
 
 // The row in which the type t stands.
-pub fn kind_of(t: u8) -> Found
-    ensures { λ r. ⌜ ((at : ℕ) → listed at r ≡ ruleIn table at t) ⌝ }
+pub fn kind_of(t: u8) -> Lookup
+    ensures { λ r. ⌜ ((at : ℕ) → ruleFound at r ≡ ruleIn table at t) ⌝ }
 {
     if 0x13 < t {
         return key(t);
     }
     match t {
-        0x01 | 0x09 | 0x11 | 0x12 => Found::Listed(Kind::Bytes(8)),
-        0x10 => Found::Listed(Kind::Bytes(4)),
-        0x13 => Found::Listed(Kind::Bytes(16)),
-        0x07 => Found::Listed(Kind::Bytes(12)),
-        0x08 => Found::Listed(Kind::Boolean),
-        0x06 | 0x0A => Found::Listed(Kind::Bytes(0)),
-        0x02 | 0x0D | 0x0E => Found::Listed(Kind::String),
-        0x05 => Found::Listed(Kind::Binary),
-        0x0B => Found::Listed(Kind::Regex),
-        0x0C => Found::Listed(Kind::Pointer),
-        0x03 | 0x04 => Found::Listed(Kind::Embedded),
-        0x0F => Found::Listed(Kind::Code),
-        _ => Found::Unlisted,
+        0x01 | 0x09 | 0x11 | 0x12 => Lookup::Listed(Kind::Bytes(8)),
+        0x10 => Lookup::Listed(Kind::Bytes(4)),
+        0x13 => Lookup::Listed(Kind::Bytes(16)),
+        0x07 => Lookup::Listed(Kind::Bytes(12)),
+        0x08 => Lookup::Listed(Kind::Boolean),
+        0x06 | 0x0A => Lookup::Listed(Kind::Bytes(0)),
+        0x02 | 0x0D | 0x0E => Lookup::Listed(Kind::String),
+        0x05 => Lookup::Listed(Kind::Binary),
+        0x0B => Lookup::Listed(Kind::Regex),
+        0x0C => Lookup::Listed(Kind::Pointer),
+        0x03 | 0x04 => Lookup::Listed(Kind::Embedded),
+        0x0F => Lookup::Listed(Kind::Code),
+        _ => Lookup::Unlisted,
     }
 }
 
 // n bytes, whatever they are.
 fn sized(n: usize, s: &[u8]) -> Extent
     ensures is { λ r. ⌜ ((v : ℕ) → extent v r ≡ sized v n (now (s .entry))) ⌝ }
-    ensures inside { λ r. ⌜ Within (length (now (s .entry))) r ⌝ }
+    ensures inside { λ r. ⌜ ExtentWithin (length (now (s .entry))) r ⌝ }
 {
     if s.len() < n {
         return Extent::Broken;
@@ -107,7 +107,7 @@ fn sized(n: usize, s: &[u8]) -> Extent
 // One byte, 0 or 1.
 fn boolean(s: &[u8]) -> Extent
     ensures is { λ r. ⌜ ((v : ℕ) → extent v r ≡ boolean v (now (s .entry))) ⌝ }
-    ensures inside { λ r. ⌜ Within (length (now (s .entry))) r ⌝ }
+    ensures inside { λ r. ⌜ ExtentWithin (length (now (s .entry))) r ⌝ }
 {
     if s.len() < 1 {
         return Extent::Broken;
@@ -121,7 +121,7 @@ fn boolean(s: &[u8]) -> Extent
 // A zero-ended string.
 fn cstring(s: &[u8]) -> Extent
     ensures is { λ r. ⌜ ((v : ℕ) → extent v r ≡ cstring v (now (s .entry))) ⌝ }
-    ensures inside { λ r. ⌜ Within (length (now (s .entry))) r ⌝ }
+    ensures inside { λ r. ⌜ ExtentWithin (length (now (s .entry))) r ⌝ }
 {
     let n = until_zero(s);
     if s.len() <= n {
@@ -133,7 +133,7 @@ fn cstring(s: &[u8]) -> Extent
 // A string: a signed length n of at least 1, then n bytes, the last zero.
 fn string(s: &[u8]) -> Extent
     ensures is { λ r. ⌜ ((v : ℕ) → extent v r ≡ string v (now (s .entry))) ⌝ }
-    ensures inside { λ r. ⌜ Within (length (now (s .entry))) r ⌝ }
+    ensures inside { λ r. ⌜ ExtentWithin (length (now (s .entry))) r ⌝ }
 {
     if s.len() < 4 {
         return Extent::Broken;
@@ -155,7 +155,7 @@ fn string(s: &[u8]) -> Extent
 // A binary: a signed length n, a subtype byte, n bytes.
 fn binary(s: &[u8]) -> Extent
     ensures is { λ r. ⌜ ((v : ℕ) → extent v r ≡ binary v (now (s .entry))) ⌝ }
-    ensures inside { λ r. ⌜ Within (length (now (s .entry))) r ⌝ }
+    ensures inside { λ r. ⌜ ExtentWithin (length (now (s .entry))) r ⌝ }
 {
     if s.len() < 4 {
         return Extent::Broken;
@@ -174,7 +174,7 @@ fn binary(s: &[u8]) -> Extent
 // Two zero-ended strings.
 pub fn regex(s: &[u8]) -> Extent
     ensures is { λ r. ⌜ ((v : ℕ) → extent v r ≡ regex v (now (s .entry))) ⌝ }
-    ensures inside { λ r. ⌜ Within (length (now (s .entry))) r ⌝ }
+    ensures inside { λ r. ⌜ ExtentWithin (length (now (s .entry))) r ⌝ }
 {
     let Extent::Takes(m) = cstring(s) else {
         return Extent::Broken;
@@ -188,7 +188,7 @@ pub fn regex(s: &[u8]) -> Extent
 // A string, then 12 bytes.
 fn pointer(s: &[u8]) -> Extent
     ensures is { λ r. ⌜ ((v : ℕ) → extent v r ≡ pointer v (now (s .entry))) ⌝ }
-    ensures inside { λ r. ⌜ Within (length (now (s .entry))) r ⌝ }
+    ensures inside { λ r. ⌜ ExtentWithin (length (now (s .entry))) r ⌝ }
 {
     let Extent::Takes(m) = string(s) else {
         return Extent::Broken;
@@ -202,7 +202,7 @@ fn pointer(s: &[u8]) -> Extent
 // A signed total of at least 14 counting itself, a string, and from there on a document.
 fn code_with_scope(s: &[u8]) -> Shape
     ensures is { λ r. ⌜ ((v : ℕ) → shape v r ≡ codeWithScope v (now (s .entry))) ⌝ }
-    ensures inside { λ r. ⌜ Inside (length (now (s .entry))) r ⌝ }
+    ensures inside { λ r. ⌜ ShapeWithin (length (now (s .entry))) r ⌝ }
 {
     if s.len() < 4 {
         return Shape::Faulty;
@@ -227,7 +227,7 @@ fn code_with_scope(s: &[u8]) -> Shape
 // A value that is bytes alone.
 fn plain(e: Extent) -> Shape
     ensures is { λ r. ⌜ ((v : ℕ) → shape v r ≡ bytes (extent v e)) ⌝ }
-    ensures inside { λ r. ⌜ ((n : ℕ) → Within n e → Inside n r) ⌝ }
+    ensures inside { λ r. ⌜ ((n : ℕ) → ExtentWithin n e → ShapeWithin n r) ⌝ }
 {
     match e {
         Extent::Takes(n) => Shape::Plain(n),
@@ -238,7 +238,7 @@ fn plain(e: Extent) -> Shape
 // A value of some kind, where s is what follows its name, up to the document's last byte.
 pub fn value_of(k: Kind, s: &[u8]) -> Shape
     ensures is { λ r. ⌜ ((v : ℕ) → shape v r ≡ ruleOf k v (now (s .entry))) ⌝ }
-    ensures inside { λ r. ⌜ Inside (length (now (s .entry))) r ⌝ }
+    ensures inside { λ r. ⌜ ShapeWithin (length (now (s .entry))) r ⌝ }
 {
     match k {
         Kind::Bytes(n) => plain(sized(n, s)),

@@ -19,7 +19,7 @@ use Rattle.opmsg.specs.declared.Reading.{Reading}
 use Rattle.opmsg.specs.declared.Verdict.the-variants.{Accepted, Refused}
 use Rattle.opmsg.proofs.Accepted.{reads}
 use Rattle.listing.specs.Next.{short, summaryOf}
-use Rattle.listing.specs.Inner.{Within}
+use Rattle.listing.specs.Inner.{StepWithin}
 use Rattle.listing.specs.declared.Step.the-variants.{Message}
 
 -- a reading by its verdict
@@ -34,7 +34,7 @@ accepted-reading (ok v) r e f = ap ok (sym (ap (λ (x : Reading). x .view) e))
 accepted-reading (refused n p) r e f = let a : Refused n p ≡ Accepted = sym (ap (λ (x : Reading). x .verdict) e) ∙ f in let z : _≡_ {A = ℕ} 0 1 = cc in absurd (omega arith)
 
 -- an accepted message lies within the bytes at hand
-pub within-bytes : (e : Edition) (s : List ℕ) (v : View) → read e s ≡ ok v → Within (length s) (Message (summaryOf v))
+pub within-bytes : (e : Edition) (s : List ℕ) (v : View) → read e s ≡ ok v → StepWithin (length s) (Message (summaryOf v))
 unfolding viewOf
 within-bytes e s v h =
     let r = reads h in

@@ -11,7 +11,7 @@ ghost use lib.ListN.{length};
 ghost use Rattle.opmsg.specs.Flags.{house};
 ghost use Rattle.opmsg.specs.Read.{read};
 ghost use Rattle.listing.specs.Next.{short, stepOf, next};
-ghost use Rattle.listing.specs.Inner.{Within};
+ghost use Rattle.listing.specs.Inner.{StepWithin};
 
 // The bytes at hand are short of a header, or of the message whose length it says.
 fn short(s: &[u8]) -> bool
@@ -33,7 +33,7 @@ fn short(s: &[u8]) -> bool
 // What a reading by the house edition says comes next.
 fn judge(s: &[u8]) -> Step
     ensures { λ r. ⌜ r ≡ stepOf (read house (now (s .entry))) ⌝ }
-    ensures { λ r. ⌜ Within (length (now (s .entry))) r ⌝ }
+    ensures { λ r. ⌜ StepWithin (length (now (s .entry))) r ⌝ }
 {
     let reading = opmsg_read::read(house(), s);
     let verdict = reading.verdict;
@@ -54,7 +54,7 @@ fn judge(s: &[u8]) -> Step
 // What comes next, where s are the bytes at hand; more may follow unless the input has ended.
 pub fn next(s: &[u8], ended: bool) -> Step
     ensures { λ r. ⌜ r ≡ next ended (now (s .entry)) ⌝ }
-    ensures { λ r. ⌜ Within (length (now (s .entry))) r ⌝ }
+    ensures { λ r. ⌜ StepWithin (length (now (s .entry))) r ⌝ }
 {
     if !ended {
         if short(s) {

@@ -3,7 +3,7 @@ ghost use mathlib.Core.List.{List, [], _∷_, _++_};
 ghost use Prim.Native.Nat.{ℕ, _+_, _≤_};
 ghost use Rattle.listing_lines.specs.Decimal.{decimal, signedDecimal};
 ghost use Rattle.listing_lines.specs.Fields.{threeNumbers, twoSigned};
-ghost use Rattle.listing_lines.specs.Written.{Written};
+ghost use Rattle.listing_lines.specs.Written.{TextWritten};
 
 // The byte between two fields, and the one behind the last.
 pub(crate) const TAB: u8 = b'\t';
@@ -13,7 +13,7 @@ pub(crate) const NEWLINE: u8 = b'\n';
 // Writes n behind the text that takes `at` bytes, and a byte behind it; answers where that ends.
 pub(crate) fn number(out: &mut [u8; 256], at: usize, n: u64, last: u8) -> usize
     requires { ⌜ at + 21 ≤ 256 ⌝ }
-    ensures { λ r. ⌜ ((text old : List ℕ) → Written text old (now (out .entry)) at → Written (text ++ (decimal n ++ last ∷ [])) old (now (out .exit)) r) ⌝ }
+    ensures { λ r. ⌜ ((text old : List ℕ) → TextWritten text old (now (out .entry)) at → TextWritten (text ++ (decimal n ++ last ∷ [])) old (now (out .exit)) r) ⌝ }
     ensures { λ r. ⌜ r ≤ at + 21 ⌝ }
 {
     let mut text = [0u8; 20];
@@ -27,7 +27,7 @@ pub(crate) fn number(out: &mut [u8; 256], at: usize, n: u64, last: u8) -> usize
 // The same of a signed number.
 pub(crate) fn signed(out: &mut [u8; 256], at: usize, x: i32, last: u8) -> usize
     requires { ⌜ at + 22 ≤ 256 ⌝ }
-    ensures { λ r. ⌜ ((text old : List ℕ) → Written text old (now (out .entry)) at → Written (text ++ (signedDecimal x ++ last ∷ [])) old (now (out .exit)) r) ⌝ }
+    ensures { λ r. ⌜ ((text old : List ℕ) → TextWritten text old (now (out .entry)) at → TextWritten (text ++ (signedDecimal x ++ last ∷ [])) old (now (out .exit)) r) ⌝ }
     ensures { λ r. ⌜ r ≤ at + 22 ⌝ }
 {
     let w = wire::bits32(x) as u64;
@@ -48,7 +48,7 @@ pub(crate) fn three_numbers(
     last: u8,
 ) -> usize
     requires { ⌜ at + 63 ≤ 256 ⌝ }
-    ensures { λ r. ⌜ ((text old : List ℕ) → Written text old (now (out .entry)) at → Written (text ++ threeNumbers a b c last) old (now (out .exit)) r) ⌝ }
+    ensures { λ r. ⌜ ((text old : List ℕ) → TextWritten text old (now (out .entry)) at → TextWritten (text ++ threeNumbers a b c last) old (now (out .exit)) r) ⌝ }
     ensures { λ r. ⌜ r ≤ at + 63 ⌝ }
 {
     let at = number(out, at, a, TAB);
@@ -59,7 +59,7 @@ pub(crate) fn three_numbers(
 // Writes two signed numbers with a tab between them, and a byte behind the second.
 pub(crate) fn two_signed(out: &mut [u8; 256], at: usize, x: i32, y: i32, last: u8) -> usize
     requires { ⌜ at + 44 ≤ 256 ⌝ }
-    ensures { λ r. ⌜ ((text old : List ℕ) → Written text old (now (out .entry)) at → Written (text ++ twoSigned x y last) old (now (out .exit)) r) ⌝ }
+    ensures { λ r. ⌜ ((text old : List ℕ) → TextWritten text old (now (out .entry)) at → TextWritten (text ++ twoSigned x y last) old (now (out .exit)) r) ⌝ }
     ensures { λ r. ⌜ r ≤ at + 44 ⌝ }
 {
     let at = signed(out, at, x, TAB);

@@ -8,7 +8,7 @@ use crate::fields::three_numbers;
 use crate::fields::two_signed;
 ghost use Rattle.io.specs.Counts.{Counts};
 ghost use Rattle.listing_lines.specs.Lines.{firstLine, messageLine, badLine, endLine};
-ghost use Rattle.listing_lines.specs.Written.{Written};
+ghost use Rattle.listing_lines.specs.Written.{TextWritten};
 
 // What a line tells of a message.
 pub struct Summary {
@@ -22,7 +22,7 @@ pub struct Summary {
 
 // Writes the first line to the start of out and answers its length.
 pub fn first_line(out: &mut [u8; 256]) -> usize
-    ensures { λ r. ⌜ Written firstLine (now (out .entry)) (now (out .exit)) r ⌝ }
+    ensures { λ r. ⌜ TextWritten firstLine (now (out .entry)) (now (out .exit)) r ⌝ }
     ensures { λ r. ⌜ Counts r (now (out .exit)) ⌝ }
 {
     wire_put::put(out, 0, b"relay-log\t");
@@ -31,7 +31,7 @@ pub fn first_line(out: &mut [u8; 256]) -> usize
 
 // Writes the line of a message and answers its length.
 pub fn message_line(out: &mut [u8; 256], offset: u64, m: Summary) -> usize
-    ensures { λ r. ⌜ Written (messageLine offset m) (now (out .entry)) (now (out .exit)) r ⌝ }
+    ensures { λ r. ⌜ TextWritten (messageLine offset m) (now (out .entry)) (now (out .exit)) r ⌝ }
     ensures { λ r. ⌜ Counts r (now (out .exit)) ⌝ }
 {
     wire_put::put(out, 0, b"msg\t");
@@ -50,7 +50,7 @@ pub fn message_line(out: &mut [u8; 256], offset: u64, m: Summary) -> usize
 
 // Writes the line of a refusal and answers its length.
 pub fn bad_line(out: &mut [u8; 256], offset: u64, refusal: u32, place: usize) -> usize
-    ensures { λ r. ⌜ Written (badLine offset refusal place) (now (out .entry)) (now (out .exit)) r ⌝ }
+    ensures { λ r. ⌜ TextWritten (badLine offset refusal place) (now (out .entry)) (now (out .exit)) r ⌝ }
     ensures { λ r. ⌜ Counts r (now (out .exit)) ⌝ }
 {
     wire_put::put(out, 0, b"bad\t");
@@ -59,7 +59,7 @@ pub fn bad_line(out: &mut [u8; 256], offset: u64, refusal: u32, place: usize) ->
 
 // Writes the last line and answers its length.
 pub fn end_line(out: &mut [u8; 256], messages: u64) -> usize
-    ensures { λ r. ⌜ Written (endLine messages) (now (out .entry)) (now (out .exit)) r ⌝ }
+    ensures { λ r. ⌜ TextWritten (endLine messages) (now (out .entry)) (now (out .exit)) r ⌝ }
     ensures { λ r. ⌜ Counts r (now (out .exit)) ⌝ }
 {
     wire_put::put(out, 0, b"end\t");

@@ -25,7 +25,7 @@ use Rattle.opmsg.specs.Read.{parts, read}
 use Rattle.opmsg.proofs.Accepted.{reads}
 use Rattle.opmsg.proofs.Bits.{Known, bits-known}
 use Rattle.opmsg.proofs.Section.{stated, nameLength, sequenceAt, BodyRead, SequenceRead, SectionRead, a-body, a-sequence, section-read, section-steady}
-use Rattle.opmsg.proofs.Differ.{Within, within-more, within-append, front-differ}
+use Rattle.opmsg.proofs.Differ.{NamesWithin, within-more, within-append, front-differ}
 use Rattle.opmsg.proofs.Shown.{padded-front, sequences-append, body-before}
 use Rattle.message.specs.Message.{output}
 use Rattle.message.specs.Write.{write}
@@ -43,7 +43,7 @@ record Front (e : Edition) (s ys zs : List ℕ) (p : Parts) : Type 0 where
   walked : walk (sectionAt e) (length ys) 20 ys nothing ≡ ok p
   body : 0 < bodyStart (p .sections)
   inside : (bodyStart (p .sections) + 4 - 20) + (bodySize (p .sections) - 5) ≤ length ys
-  names : Within (length ys) (sequencesOf (p .sections))
+  names : NamesWithin (length ys) (sequencesOf (p .sections))
 
 -- the next section is a sequence, and is read
 record Next (e : Edition) (ys zs : List ℕ) (p : Parts) (one : Step Parts) : Type 0 where

@@ -20,7 +20,7 @@ use Rattle.opmsg.specs.Inner.{Filled, none}
 use Rattle.opmsg.specs.declared.Edition.{Edition}
 use Rattle.opmsg.specs.declared.View.{View}
 use Rattle.opmsg.proofs.Accepted.{reads}
-use Rattle.opmsg.proofs.Differ.{Within, within-more, within-append}
+use Rattle.opmsg.proofs.Differ.{NamesWithin, within-more, within-append}
 use Rattle.opmsg.proofs.Section.{entryAt, SectionRead, a-body, a-sequence, section-read, section-steady}
 use Rattle.opmsg.proofs.Shown.{Started, started-append, body-behind}
 use Rattle.opmsg_documents.proofs.Fill.{document-filled}
@@ -32,7 +32,7 @@ pub record Held (xs : List ℕ) (i : ℕ) (qs : List Section) : Type 0 where
   pub few : length (sequencesOf qs) ≤ maxSequences
   pub inside : (bodyStart qs + 4 - 20) + (bodySize qs - 5) ≤ i
   pub filled : Filled (part xs (bodyStart qs + 4) (bodySize qs - 5))
-  pub names : Within i (sequencesOf qs)
+  pub names : NamesWithin i (sequencesOf qs)
 
 held-none : (xs : List ℕ) → Held xs 0 []
 unfolding bodyStart bodySize sequencesOf part

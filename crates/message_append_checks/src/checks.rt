@@ -28,7 +28,7 @@ fn too_long(old: u32, n: usize, d: usize) -> bool
 }
 
 // Checks 10, 14, 13, 2 and 25 for a message of `old` bytes and `count` sequences whose sections end at `end`, and documents of d bytes.
-pub(crate) fn checks(
+pub(crate) fn between_readings(
     e: Edition,
     end: usize,
     count: u32,

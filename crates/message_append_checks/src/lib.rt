@@ -1,11 +1,11 @@
 // What an append decides before it writes.
 mod checks;
 
-use checks::checks;
+use checks::between_readings;
 use opmsg::Edition;
 use opmsg::Verdict;
 use opmsg::View;
-use opmsg_documents::Run;
+use opmsg_documents::Counted;
 use opmsg_flags::checksum_size;
 use opmsg_names::identifiers::taken;
 ghost use mathlib.Core.Path.{_≡_};
@@ -65,7 +65,7 @@ pub fn examine(
     ensures { λ r. ⌜ Examined e (now (s .entry)) v (now (identifier .entry)) (now (documents .entry)) room r ⌝ }
 {
     let end = (v.length - checksum_size(v.flags)) as usize;
-    let passed = checks(
+    let passed = between_readings(
         e,
         end,
         v.sequence_count,
@@ -79,7 +79,7 @@ pub fn examine(
     }
     let at = end + (identifier.len() + 6);
     match opmsg_documents::documents(documents, at as u32, v.elements) {
-        Run::Past {
+        Counted::Past {
             documents: number,
             elements,
         } => {
@@ -95,6 +95,6 @@ pub fn examine(
                 elements,
             }
         }
-        Run::Refused { number, place } => Found::Refused { number, place },
+        Counted::Refused { number, place } => Found::Refused { number, place },
     }
 }

@@ -11,7 +11,7 @@ use Rattle.wire.proofs.Parts.{put-fits}
 use Rattle.opmsg.specs.Layout.{checksumSize}
 use Rattle.message.specs.Message.{checksum, message, wholeLength}
 use Rattle.message.specs.Append.{sequenceBytes, appended}
-use Rattle.message_seal.specs.Inner.{over}
+use Rattle.message_seal.specs.Inner.{overwritten}
 use Rattle.message_seal.proofs.Stores.{Stored, stores-none, stores, stores-byte, sealed}
 use Rattle.message_append_store.proofs.Size.{sizeOf, bytes-length}
 
@@ -92,9 +92,9 @@ module _ (s name documents old : List ℕ) (end flags : ℕ) (low : 20 ≤ end) 
         let l₅ = length-append (a ++ b ++ c ++ xs) d in
         let s₅ : Stored (a ++ b ++ c ++ xs ++ d) old now₅ = rw e₅ (stores (a ++ b ++ c ++ xs) d old now₄ end (omega arith) (omega arith) s₄) in
         let same = regrouped a b c xs d in
-        (omega (arith, ap length same), s₅ ∙ ap (λ (m : List ℕ). over m old) same)
+        (omega (arith, ap length same), s₅ ∙ ap (λ (m : List ℕ). overwritten m old) same)
 
     -- the message, from the output before it to the output after
-    pub message-stored : {now₆ : List ℕ} → now₆ ≡ put stop (checksum flags (take stop now₅)) now₅ → now₆ ≡ over (appended s flags (xs ++ sequenceBytes name documents)) old
+    pub message-stored : {now₆ : List ℕ} → now₆ ≡ put stop (checksum flags (take stop now₅)) now₅ → now₆ ≡ overwritten (appended s flags (xs ++ sequenceBytes name documents)) old
     unfolding appended message
     message-stored e₆ = rw stated (e₆ ∙ sealed bare old now₅ flags stop (bare-stored .0) fits (bare-stored .1))

@@ -10,7 +10,7 @@ ghost use lib.ListN.{length, take, drop};
 ghost use Rattle.wire.specs.Bytes.{put};
 ghost use Rattle.opmsg.specs.Layout.{checksumSize};
 ghost use Rattle.message.specs.Append.{sequenceBytes, appended};
-ghost use Rattle.message_seal.specs.Inner.{over};
+ghost use Rattle.message_seal.specs.Inner.{overwritten};
 
 // Stores a section of kind 1 at a place.
 fn section(out: &mut [u8], at: usize, identifier: &[u8], documents: &[u8])
@@ -37,7 +37,7 @@ pub fn appended(
     requires { ⌜ (20 ≤ end) × (end ≤ length (now s))
         × (end + (length (now identifier) + 6 + length (now documents)) + checksumSize flags ≤ length (now out))
         × (end + (length (now identifier) + 6 + length (now documents)) + checksumSize flags < 2 ^ 32) ⌝ }
-    ensures { λ _. ⌜ now (out .exit) ≡ over (appended (now (s .entry)) flags (take (end - 20) (drop 20 (now (s .entry))) ++ sequenceBytes (now (identifier .entry)) (now (documents .entry)))) (now (out .entry)) ⌝ }
+    ensures { λ _. ⌜ now (out .exit) ≡ overwritten (appended (now (s .entry)) flags (take (end - 20) (drop 20 (now (s .entry))) ++ sequenceBytes (now (identifier .entry)) (now (documents .entry)))) (now (out .entry)) ⌝ }
 {
     let stop = end + (identifier.len() + 6 + documents.len());
     put_word(out, 0, stop as u32 + checksum_size(flags));

@@ -13,7 +13,7 @@ use Rattle.message.specs.Message.{message, checksum, wholeLength}
 use Rattle.message.proofs.Message.{header-length, header-word, stated-end}
 use Rattle.message.proofs.Forwarded.{view-length, form}
 use Rattle.message.proofs.Whole.{whole}
-use Rattle.message_seal.specs.Inner.{over}
+use Rattle.message_seal.specs.Inner.{overwritten}
 use Rattle.message_seal.proofs.Stores.{Stored, stores-none, stores, sealed}
 use Rattle.message_forward_store.specs.Inner.{Shown}
 
@@ -39,7 +39,7 @@ module _ (s : List ℕ) (size flags : ℕ) (m : Shown s size flags) where
       unfolding wordAt
       flags-same = sym (rw (rest-part 16 s) at w-is) ∙ same
 
-      pub forward-same : put 0 (take size s) out ≡ over (message (take 16 s) flags (sectionBytes s)) out
+      pub forward-same : put 0 (take size s) out ≡ overwritten (message (take 16 s) flags (sectionBytes s)) out
       forward-same =
           let is : message (take 16 s) flags (sectionBytes s) ≡ take size s = rw (← flags-same, ← m .size-is, view-length (m .edition) s (m .view) (m .reads)) (whole (m .edition) s (m .view) (m .reads) bytes) in
           rw is (stores [] (take size s) out out 0 refl (omega (arith, length-take size s)) (stores-none out))
@@ -47,7 +47,7 @@ module _ (s : List ℕ) (size flags : ℕ) (m : Shown s size flags) where
     -- the header, the flag word, the sections and the checksum of k bytes, stored one behind the other
     module _ (k : ℕ) (k-is : k ≡ checksumSize flags) (a b c : List ℕ) (first : a ≡ put 0 (take 16 s) out) (second : b ≡ put 16 (le32 flags) a)
         (third : c ≡ put 20 (take (size - k - 20) (drop 20 s)) b) where
-      pub forward-stores : put (size - k) (checksum flags (take (size - k) c)) c ≡ over (message (take 16 s) flags (sectionBytes s)) out
+      pub forward-stores : put (size - k) (checksum flags (take (size - k) c)) c ≡ overwritten (message (take 16 s) flags (sectionBytes s)) out
       unfolding message le32
       forward-stores =
           let xs = sectionBytes s in

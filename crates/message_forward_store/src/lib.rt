@@ -9,13 +9,13 @@ ghost use Prim.Native.Nat.{_≤_};
 ghost use lib.ListN.{length, take};
 ghost use Rattle.opmsg.specs.Layout.{sectionBytes};
 ghost use Rattle.message.specs.Message.{message};
-ghost use Rattle.message_seal.specs.Inner.{over};
+ghost use Rattle.message_seal.specs.Inner.{overwritten};
 ghost use Rattle.message_forward_store.specs.Inner.{Shown};
 
 // Stores the message at the start of s with another flag word, and the checksum worked out anew.
 fn reflagged(out: &mut [u8], s: &[u8], size: usize, flags: u32)
     requires { ⌜ Shown (now s) size flags × (size ≤ length (now out)) ⌝ }
-    ensures { λ _. ⌜ now (out .exit) ≡ over (message (take 16 (now (s .entry))) flags (sectionBytes (now (s .entry)))) (now (out .entry)) ⌝ }
+    ensures { λ _. ⌜ now (out .exit) ≡ overwritten (message (take 16 (now (s .entry))) flags (sectionBytes (now (s .entry)))) (now (out .entry)) ⌝ }
 {
     let end = size - checksum_size(flags) as usize;
     put(out, 0, &s[..16]);
@@ -27,7 +27,7 @@ fn reflagged(out: &mut [u8], s: &[u8], size: usize, flags: u32)
 // Stores the message at the start of s, which was read, with the flag word that is shown of it.
 pub fn forwarded(out: &mut [u8], s: &[u8], size: usize, flags: u32)
     requires { ⌜ Shown (now s) size flags × (size ≤ length (now out)) ⌝ }
-    ensures { λ _. ⌜ now (out .exit) ≡ over (message (take 16 (now (s .entry))) flags (sectionBytes (now (s .entry)))) (now (out .entry)) ⌝ }
+    ensures { λ _. ⌜ now (out .exit) ≡ overwritten (message (take 16 (now (s .entry))) flags (sectionBytes (now (s .entry)))) (now (out .entry)) ⌝ }
 {
     if word(&s[16..]) != flags {
         reflagged(out, s, size, flags);

@@ -12,11 +12,11 @@ use Rattle.wire.proofs.Parts.{put-fits}
 use Rattle.opmsg.specs.Layout.{checksumSize}
 use Rattle.message.specs.Message.{checksum}
 use Rattle.message.proofs.Message.{length-checksum}
-use Rattle.message_seal.specs.Inner.{over}
+use Rattle.message_seal.specs.Inner.{overwritten}
 
 -- what stands there after the bytes p were stored over old
 abbrev pub Stored : List ℕ → List ℕ → List ℕ → Type 0
-Stored p old now = now ≡ over p old
+Stored p old now = now ≡ overwritten p old
 
 -- nothing is stored yet
 pub stores-none : (old : List ℕ) → Stored [] old old

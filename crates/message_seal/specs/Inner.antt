@@ -5,5 +5,5 @@ use mathlib.Core.List.{List, _++_}
 use lib.ListN.{length, drop}
 
 -- the bytes m stand at the start, and what stood behind them stays
-abbrev pub over : List ℕ → List ℕ → List ℕ
-over m old = m ++ drop (length m) old
+abbrev pub overwritten : List ℕ → List ℕ → List ℕ
+overwritten m old = m ++ drop (length m) old

@@ -31,7 +31,7 @@ use Rattle.opmsg.proofs.Accepted.{Sound, read-content}
 use Rattle.message.specs.Message.{wholeLength}
 use Rattle.message.specs.Write.{written, write}
 use Rattle.message.proofs.Message.{Headed, message-word, message-flags, message-end, message-sections, message-sound}
-use Rattle.message_write_checks.specs.Inner.{Fit, examined}
+use Rattle.message_write_checks.specs.Inner.{Fit, bodyExamined}
 use Rattle.message_write.specs.Inner.{shown}
 
 -- ---- sections that are a body alone
@@ -98,8 +98,8 @@ module _ (e : Edition) (i j : ℤ) (flags : ℕ) (s : List ℕ) (room : ℕ) (fi
       rw (message-end front flags (0 ∷ s) front-headed, message-sections front flags (0 ∷ s) front-headed, n) (body-walked e s (20 + length s) (fit .stated))
 
   -- reading the message is reading the body
-  written-read : read e (written i j flags s) ≡ (examined s >>= λ d. ok (viewOf e (written i j flags s) (alone d)))
-  unfolding content examined written
+  written-read : read e (written i j flags s) ≡ (bodyExamined s >>= λ d. ok (viewOf e (written i j flags s) (alone d)))
+  unfolding content bodyExamined written
   written-read =
       read-content e (written i j flags s) front-sound required-known
       ∙ rw (written-parts, message-end front flags (0 ∷ s) front-headed, message-sections front flags (0 ∷ s) front-headed)
@@ -119,7 +119,7 @@ module _ (e : Edition) (i j : ℤ) (flags : ℕ) (s : List ℕ) (room : ℕ) (fi
       ∙ pass 15 21 _ (ap not (eq-eqb (word s) (length s) (fit .stated)))
 
   -- the body is refused, or one of its names
-  pub write-refused : {number place : ℕ} → examined s ≡ refused number place → write e i j flags s room ≡ refused number place
+  pub write-refused : {number place : ℕ} → bodyExamined s ≡ refused number place → write e i j flags s room ≡ refused number place
   write-refused h = write-reads ∙ halt _ (written-read ∙ halt _ h)
 
   module _ (fits-i : SFits w32 i) (fits-j : SFits w32 j) where
@@ -141,9 +141,9 @@ module _ (e : Edition) (i j : ℤ) (flags : ℕ) (s : List ℕ) (room : ℕ) (fi
         )
 
     -- it is accepted
-    pub write-accepted : {size elements : ℕ} → examined s ≡ step size elements
+    pub write-accepted : {size elements : ℕ} → bodyExamined s ≡ step size elements
         → write e i j flags s room ≡ ok (record { view = shown i j flags (wholeLength flags (0 ∷ s)) (length s) elements; bytes = written i j flags s })
-    unfolding examined
+    unfolding bodyExamined
     write-accepted {size} {elements} h =
         bound (documentAt maxLevels 21 s 0) _ h λ d read rest.
         bound _ _ rest λ u passed same.

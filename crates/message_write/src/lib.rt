@@ -1,7 +1,7 @@
 // Writing a message from its ids, flag word and body. Nothing is stored before the answer is known.
 use bson::Walk;
-use message_write_checks::checks;
-use message_write_checks::examine;
+use message_write_checks::before_reading;
+use message_write_checks::examine_body;
 use opmsg::Edition;
 use opmsg::Reading;
 use opmsg::Verdict;
@@ -64,11 +64,11 @@ pub fn write(
     ensures shows { λ r. ⌜ r ≡ answer (viewed (write e «request_id» «response_to» flags (now (body .entry)) (length (now (out .entry))))) ⌝ }
     ensures writes { λ _. ⌜ now (out .exit) ≡ output (write e «request_id» «response_to» flags (now (body .entry)) (length (now (out .entry)))) (now (out .entry)) ⌝ }
 {
-    let checked = checks(e, flags, body, out.len());
+    let checked = before_reading(e, flags, body, out.len());
     if let Verdict::Refused { number, place } = checked {
         return refusal(number, place);
     }
-    match examine(body) {
+    match examine_body(body) {
         Walk::Past { count, .. } => {
             let size = whole(flags, body.len());
             let view = view(
@@ -93,11 +93,11 @@ pub fn write(
 pub fn check(e: Edition, flags: u32, body: &[u8], room: usize) -> Verdict
     ensures { λ r. ⌜ Decided e flags (now (body .entry)) room r ⌝ }
 {
-    let checked = checks(e, flags, body, room);
+    let checked = before_reading(e, flags, body, room);
     let Verdict::Accepted = checked else {
         return checked;
     };
-    match examine(body) {
+    match examine_body(body) {
         Walk::Past { .. } => Verdict::Accepted,
         Walk::Refused { number, place } => Verdict::Refused { number, place },
     }

@@ -15,11 +15,11 @@ use Rattle.opmsg.specs.Names.{distinct, elementNames}
 use Rattle.opmsg.specs.declared.Verdict.{Verdict}
 use Rattle.opmsg_body_names.proofs.Elements.{names-turns}
 use Rattle.opmsg_documents.proofs.Fill.{document-filled}
-use Rattle.message_write_checks.specs.Inner.{examined}
+use Rattle.message_write_checks.specs.Inner.{bodyExamined}
 
 module _ (s : List ℕ) (w : Walk) (is : told w ≡ documentAt maxLevels 21 s 0) where
-  pub body-refused : {number place : ℕ} → w ≡ Walk.Refused number place → examined s ≡ refused number place
-  unfolding examined
+  pub body-refused : {number place : ℕ} → w ≡ Walk.Refused number place → bodyExamined s ≡ refused number place
+  unfolding bodyExamined
   body-refused h = halt _ (sym is ∙ ap told h)
 
   -- the elements, as code slices them
@@ -31,8 +31,8 @@ module _ (s : List ℕ) (w : Walk) (is : told w ≡ documentAt maxLevels 21 s 0)
     body-filled = rw inner (document-filled maxLevels 21 s 0 (record { size = size; state = count }) (sym is ∙ ap told h))
 
     pub body-named : (v : Verdict) → judged v ≡ distinct 23 [] (elementNames (length (take (size - 1 - 4) (drop 4 s))) 25 (take (size - 1 - 4) (drop 4 s)))
-        → examined s ≡ (judged v >>= λ _. step size count)
-    unfolding examined
+        → bodyExamined s ≡ (judged v >>= λ _. step size count)
+    unfolding bodyExamined
     body-named v k =
         let short : length (take (size - 1 - 4) (drop 4 s)) ≤ size = rw length-take (omega arith) in
         go-on _ (sym is ∙ ap told h) ∙ rw (k, ← inner, names-turns size (length (take (size - 1 - 4) (drop 4 s))) 25 _ body-filled short (omega arith))

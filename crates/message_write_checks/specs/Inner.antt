@@ -33,8 +33,8 @@ Checked e flags body room Accepted = Fit e flags body room
 Checked e flags body room (Refused number place) = (requestId responseTo : ℤ) → write e requestId responseTo flags body room ≡ refused number place
 
 -- the body at its place in the message, and check 23 of its names
-unfoldable pub examined : List ℕ → Outcome (Step ℕ)
-examined body = do
+unfoldable pub bodyExamined : List ℕ → Outcome (Step ℕ)
+bodyExamined body = do
   d ← documentAt maxLevels 21 body 0
   _ ← distinct 23 [] (elementNames (d .size) 25 (take (d .size - 5) (drop 4 body)))
   ok d

@@ -10,10 +10,10 @@ use opmsg_header::MAX_LENGTH;
 use wire::word;
 ghost use mathlib.Core.Path.{_≡_};
 ghost use Rattle.bson.specs.Document.{told};
-ghost use Rattle.message_write_checks.specs.Inner.{Checked, examined};
+ghost use Rattle.message_write_checks.specs.Inner.{Checked, bodyExamined};
 
 // The checks before the body is read: 8, 2, 25 and 15.
-pub fn checks(e: Edition, flags: u32, body: &[u8], room: usize) -> Verdict
+pub fn before_reading(e: Edition, flags: u32, body: &[u8], room: usize) -> Verdict
     ensures { λ r. ⌜ Checked e flags (now (body .entry)) room r ⌝ }
 {
     if !all_known(e.bits, flags) {
@@ -36,8 +36,8 @@ pub fn checks(e: Edition, flags: u32, body: &[u8], room: usize) -> Verdict
 }
 
 // Reads the body at its place in the message, with check 23 of its names.
-pub fn examine(body: &[u8]) -> Walk
-    ensures { λ r. ⌜ told r ≡ examined (now (body .entry)) ⌝ }
+pub fn examine_body(body: &[u8]) -> Walk
+    ensures { λ r. ⌜ told r ≡ bodyExamined (now (body .entry)) ⌝ }
 {
     let w = bson::document(body, 21, 0);
     let Walk::Past { size, .. } = w else {

@@ -9,7 +9,7 @@ ghost use Prim.Native.Nat.{_≤_};
 ghost use lib.ListN.{length};
 ghost use Rattle.message.specs.Message.{wholeLength};
 ghost use Rattle.message.specs.Write.{written};
-ghost use Rattle.message_seal.specs.Inner.{over};
+ghost use Rattle.message_seal.specs.Inner.{overwritten};
 
 // Stores a message that has a body alone.
 pub fn written(
@@ -21,7 +21,7 @@ pub fn written(
     out: &mut [u8],
 )
     requires { ⌜ (size ≡ wholeLength flags (0 ∷ now body)) × (size ≤ length (now out)) ⌝ }
-    ensures { λ _. ⌜ now (out .exit) ≡ over (written «request_id» «response_to» flags (now (body .entry))) (now (out .entry)) ⌝ }
+    ensures { λ _. ⌜ now (out .exit) ≡ overwritten (written «request_id» «response_to» flags (now (body .entry))) (now (out .entry)) ⌝ }
 {
     put_word(out, 0, size);
     put_word(out, 4, bits32(request_id));

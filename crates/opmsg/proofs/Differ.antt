@@ -22,15 +22,15 @@ use Rattle.opmsg.proofs.Accepted.{Differ}
 use Rattle.opmsg.proofs.Shown.{sequences-append, body-before}
 
 -- identifiers that stand within the first n bytes of the sections
-abbrev pub Within : ℕ → List Sequence → Type 0
-Within n [] = Unit {0}
-Within n (q ∷ qs) = ((q .name - 20) + q .«name_length» ≤ n) × Within n qs
+abbrev pub NamesWithin : ℕ → List Sequence → Type 0
+NamesWithin n [] = Unit {0}
+NamesWithin n (q ∷ qs) = ((q .name - 20) + q .«name_length» ≤ n) × NamesWithin n qs
 
-pub within-more : (m n : ℕ) (qs : List Sequence) → m ≤ n → Within m qs → Within n qs
+pub within-more : (m n : ℕ) (qs : List Sequence) → m ≤ n → NamesWithin m qs → NamesWithin n qs
 within-more m n [] l h = tt
 within-more m n (q ∷ qs) l h = (omega (arith, h .0), within-more m n qs l (h .1))
 
-pub within-append : (n : ℕ) (qs rs : List Sequence) → Within n qs → Within n rs → Within n (qs ++ rs)
+pub within-append : (n : ℕ) (qs rs : List Sequence) → NamesWithin n qs → NamesWithin n rs → NamesWithin n (qs ++ rs)
 within-append n [] rs h k = k
 within-append n (q ∷ qs) rs h k = (h .0, within-append n qs rs (h .1) k)
 
@@ -41,7 +41,7 @@ front-part ys zs place n h =
     let k : n ≤ length (drop (place - 20) ys) = rw length-drop (omega arith) in
     rw (drop-append-le (place - 20) ys zs l) (take-append-le n (drop (place - 20) ys) zs k)
 
-pub front-identifiers : (ys zs : List ℕ) (qs : List Sequence) → Within (length ys) qs → map (identifier (ys ++ zs)) qs ≡ map (identifier ys) qs
+pub front-identifiers : (ys zs : List ℕ) (qs : List Sequence) → NamesWithin (length ys) qs → map (identifier (ys ++ zs)) qs ≡ map (identifier ys) qs
 unfolding identifier
 front-identifiers ys zs [] h = refl
 front-identifiers ys zs (q ∷ qs) h = rw (front-part ys zs (q .name) (q .«name_length») (h .0), front-identifiers ys zs qs (h .1))
@@ -58,7 +58,7 @@ front-distinct number earlier (n ∷ ns) ms h =
     pass number (n .place) _ (c .0) ∙ front-distinct number (n .text ∷ earlier) ns ms (c .1)
 
 -- in a front ys of the sections' bytes, with the body and all of qs in it
-pub front-differ : (ys zs : List ℕ) (qs rs : List Section) → 0 < bodyStart qs → (bodyStart qs + 4 - 20) + (bodySize qs - 5) ≤ length ys → Within (length ys) (sequencesOf qs)
+pub front-differ : (ys zs : List ℕ) (qs rs : List Section) → 0 < bodyStart qs → (bodyStart qs + 4 - 20) + (bodySize qs - 5) ≤ length ys → NamesWithin (length ys) (sequencesOf qs)
     → Differ (ys ++ zs) (qs ++ rs) → Differ ys qs
 unfolding bodyNames identifiers
 front-differ ys zs qs rs some inside k d =

@@ -149,7 +149,7 @@ module _ (xs : List ℕ) (k : ℕ) (text : List ℕ) (i left : ℕ) (s : Sought 
 
 -- ---- the elements before place i of xs, k of them, have names that differ
 
-pub record Listed (at : ℕ) (xs : List ℕ) (i k : ℕ) (marks : List ℕ) : Type 0 where
+pub record NamesPassed (at : ℕ) (xs : List ℕ) (i k : ℕ) (marks : List ℕ) : Type 0 where
   pub turns : ℕ
   pub reached : Reached xs i turns
   pub whole : Filled xs
@@ -158,12 +158,12 @@ pub record Listed (at : ℕ) (xs : List ℕ) (i k : ℕ) (marks : List ℕ) : Ty
   pub met : Met 23 [] (elementNames (length xs) at xs) k marks
 
 module _ (at : ℕ) (xs : List ℕ) where
-  pub listed-none : Filled xs → (marks : List ℕ) → length marks ≡ 32 → Listed at xs 0 0 marks
+  pub listed-none : Filled xs → (marks : List ℕ) → length marks ≡ 32 → NamesPassed at xs 0 0 marks
   listed-none f marks h =
       let e : at + 0 ≡ at = omega arith in
       record { turns = length xs; reached = reached-none xs f; whole = f; few = omega arith; left = rw e; met = met-none 23 [] _ (marks-none marks h) }
 
-  module _ (i k : ℕ) {marks : List ℕ} (l : Listed at xs i k marks) where
+  module _ (i k : ℕ) {marks : List ℕ} (l : NamesPassed at xs i k marks) where
     before : texts (take k (elementNames (length xs) at xs)) ≡ take k (namesOf xs)
     before = texts-take k (elementNames (length xs) at xs) ∙ ap (take k) (names-of (length xs) at xs (l .whole) (omega arith))
 
@@ -182,7 +182,7 @@ module _ (at : ℕ) (xs : List ℕ) where
 
       -- the next name is new
       pub listed-next : (size : ℕ) → size ≡ elementSize (drop i xs) → among (take k (namesOf xs)) (nameText (drop i xs)) ≡ false
-          → Listed at xs (i + size) (k + 1) (marking marks (slotOf (nameText (drop i xs))))
+          → NamesPassed at xs (i + size) (k + 1) (marking marks (slotOf (nameText (drop i xs))))
       listed-next size e h =
           let r = reached-next xs i (l .turns) (l .reached) inside size e in
           let place : at + i + size ≡ at + (i + size) = omega arith in

@@ -2,9 +2,9 @@
 -- Assumes nothing: these are definitions.
 use Rattle.wire.specs.Outcome.{Outcome, ok, refused}
 use Rattle.opmsg.specs.Sections as Sections
-use Rattle.opmsg_documents.specs.declared.Run.{Run}
+use Rattle.opmsg_documents.specs.declared.Counted.{Counted}
 
 -- documents back to back
-abbrev pub ran : Run → Outcome Sections.Run
-ran (Run.Past documents elements) = ok (record { documents = documents; elements = elements })
-ran (Run.Refused number place) = refused number place
+abbrev pub toldRun : Counted → Outcome Sections.Run
+toldRun (Counted.Past documents elements) = ok (record { documents = documents; elements = elements })
+toldRun (Counted.Refused number place) = refused number place

@@ -5,18 +5,18 @@ ghost use Prim.Native.Nat.{ℕ, _+_, _^_, _<_, _≤_};
 ghost use lib.ListN.{length};
 ghost use Rattle.wire.specs.Walk.{walk};
 ghost use Rattle.opmsg.specs.Sections.{nextDocument};
-ghost use Rattle.opmsg_documents.specs.Inner.{ran};
+ghost use Rattle.opmsg_documents.specs.Inner.{toldRun};
 
 // Documents back to back: their number and the elements counted by now, or a refusal.
-pub enum Run {
+pub enum Counted {
     Past { documents: u32, elements: u32 },
     Refused { number: u32, place: usize },
 }
 
 // Documents that fill s.
-pub fn documents(s: &[u8], at: u32, count: u32) -> Run
+pub fn documents(s: &[u8], at: u32, count: u32) -> Counted
     requires { ⌜ at + length (now s) < 2 ^ 31 ⌝ }
-    ensures { λ r. ⌜ ((turns : ℕ) → length (now (s .entry)) ≤ turns → ran r ≡ walk nextDocument turns at (now (s .entry)) (record { documents = 0; elements = count })) ⌝ }
+    ensures { λ r. ⌜ ((turns : ℕ) → length (now (s .entry)) ≤ turns → toldRun r ≡ walk nextDocument turns at (now (s .entry)) (record { documents = 0; elements = count })) ⌝ }
 {
     let mut i: u32 = 0;
     let mut number: u32 = 0;
@@ -32,11 +32,11 @@ pub fn documents(s: &[u8], at: u32, count: u32) -> Run
                 elements = more;
             }
             Walk::Refused { number: n, place } => {
-                return Run::Refused { number: n, place };
+                return Counted::Refused { number: n, place };
             }
         }
     }
-    Run::Past {
+    Counted::Past {
         documents: number,
         elements,
     }

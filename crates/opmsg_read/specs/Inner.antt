@@ -5,7 +5,7 @@ use mathlib.Core.List.{List}
 use Rattle.opmsg.specs.Layout.{maxLength, messageLength, flagWord, checksumSize}
 
 -- what is known of a message s whose header and flag word were accepted
-pub record Ready (s : List ℕ) : Type 0 where
+pub record FlagsAccepted (s : List ℕ) : Type 0 where
   pub limit : messageLength s ≤ maxLength
   pub whole : messageLength s ≤ lib.ListN.length s
   pub ended : 20 + checksumSize (flagWord s) ≤ messageLength s

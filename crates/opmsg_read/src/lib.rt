@@ -13,11 +13,11 @@ use wire::word;
 ghost use mathlib.Core.Path.{_≡_};
 ghost use Rattle.opmsg.specs.View.{answer};
 ghost use Rattle.opmsg.specs.Read.{content, read};
-ghost use Rattle.opmsg_read.specs.Inner.{Ready};
+ghost use Rattle.opmsg_read.specs.Inner.{FlagsAccepted};
 
 // Checks 10 to 24 of a message whose header and flag word were accepted, and its view.
 fn content(e: Edition, s: &[u8]) -> Reading
-    requires { ⌜ Ready (now s) ⌝ }
+    requires { ⌜ FlagsAccepted (now s) ⌝ }
     ensures { λ r. ⌜ r ≡ answer (content e (now (s .entry))) ⌝ }
 {
     let length = word(s) as usize;

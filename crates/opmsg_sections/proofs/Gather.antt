@@ -14,7 +14,7 @@ use Rattle.opmsg.specs.Sections.{maxSequences, Section, body, sequence, bodySta
 use Rattle.opmsg.specs.Names.{part}
 use Rattle.opmsg.specs.View.{noSequence, padded}
 use Rattle.opmsg.specs.Inner.{Filled, none, Shows}
-use Rattle.opmsg_sequences.specs.Inner.{partOf, Reaches, Carries}
+use Rattle.opmsg_sequences.specs.Inner.{partOf, PartWithin, PassedNumbers}
 use Rattle.opmsg.specs.declared.Edition.{Edition}
 use Rattle.opmsg.specs.declared.Sequence.{Sequence}
 use Rattle.opmsg_sequences.specs.declared.Part.{Part}
@@ -92,8 +92,8 @@ module _ {e : Edition} {xs : List ℕ} {i start size : ℕ} {table : List Sequen
 
   -- before it a section is read
   module _ (more : i < length xs) (r : Part)
-      (is : (p : Parts) → Carries p start number elements → partOf (20 + i) p r ≡ sectionAt e (20 + i) (take (length xs - i) (drop i xs)) p)
-      (reaches : Reaches (take (length xs - i) (drop i xs)) r) where
+      (is : (p : Parts) → PassedNumbers p start number elements → partOf (20 + i) p r ≡ sectionAt e (20 + i) (take (length xs - i) (drop i xs)) p)
+      (reaches : PartWithin (take (length xs - i) (drop i xs)) r) where
     answered : partOf (20 + i) (k .parts) r ≡ sectionAt e (20 + i) (take (length xs - i) (drop i xs)) (k .parts)
     answered = is (k .parts) (record { start-is = k .shows .start-is; number-is = k .shows .number-is; elements-is = k .elements-is })
 

@@ -11,11 +11,11 @@ use Rattle.bson.specs.Document.{documentAt, maxLevels, told}
 use Rattle.bson.specs.declared.Walk.{Walk}
 use Rattle.opmsg_documents.proofs.Turns.{past-framed}
 use Rattle.opmsg_documents.proofs.Fill.{document-filled}
-use Rattle.opmsg_sequences.specs.Inner.{Reaches}
+use Rattle.opmsg_sequences.specs.Inner.{PartWithin}
 use Rattle.opmsg_sequences.specs.declared.Part.{Part}
 
 pub body-reaches : (at : ℕ) (xs : List ℕ) (count size more : ℕ) (w : Walk) → told w ≡ documentAt maxLevels at (take (length xs - 1) (drop 1 xs)) count → w ≡ Walk.Past size more
-    → Reaches xs (Part.Body size more)
+    → PartWithin xs (Part.Body size more)
 body-reaches at xs count size more w e h =
     let f = past-framed at _ count w e h in
     let k = document-filled maxLevels at _ count (record { size = size; state = more }) (sym e ∙ ap told h) in

@@ -23,9 +23,9 @@ pub record Gathered (e : Edition) (xs : List ℕ) (c : Content) : Type 0 where
   pub near : c .body + c .«body_length» ≤ 20 + lib.ListN.length xs
   pub filled : Filled (part xs (c .body + 4) (c .«body_length» - 5))
 
-abbrev pub listed : Edition → List ℕ → Content → Verdict → Type 0
-listed e xs c Accepted = Gathered e xs c
-listed e xs c (Refused number place) = walk (sectionAt e) (lib.ListN.length xs) 20 xs nothing ≡ refused number place
+abbrev pub sectionsTold : Edition → List ℕ → Content → Verdict → Type 0
+sectionsTold e xs c Accepted = Gathered e xs c
+sectionsTold e xs c (Refused number place) = walk (sectionAt e) (lib.ListN.length xs) 20 xs nothing ≡ refused number place
 
-abbrev pub Listed : Edition → List ℕ → Content → Type 0
-Listed e xs c = listed e xs c (c .verdict)
+abbrev pub SectionsTold : Edition → List ℕ → Content → Type 0
+SectionsTold e xs c = sectionsTold e xs c (c .verdict)

@@ -11,14 +11,14 @@ ghost use mathlib.Core.Path.{_≡_};
 ghost use Prim.Native.Nat.{ℕ, _+_, _^_, _<_};
 ghost use lib.ListN.{length};
 ghost use Rattle.opmsg.specs.Sections.{Parts, bodySection, sectionAt};
-ghost use Rattle.opmsg_sequences.specs.Inner.{partOf, Reaches, Carries};
-ghost use Rattle.opmsg_sections.specs.Inner.{Listed};
+ghost use Rattle.opmsg_sequences.specs.Inner.{partOf, PartWithin, PassedNumbers};
+ghost use Rattle.opmsg_sections.specs.Inner.{SectionsTold};
 
 // Kind 0; xs begins with the kind byte. `start` is that of a body passed before, or 0.
 fn body_section(xs: &[u8], at: usize, start: usize, elements: u32) -> Part
     requires { ⌜ (0 < length (now xs)) × (at + length (now xs) < 2 ^ 31) ⌝ }
-    ensures is { λ r. ⌜ ((p : Parts) (number : ℕ) → Carries p start number elements → partOf at p r ≡ bodySection at (now (xs .entry)) p) ⌝ }
-    ensures inside { λ r. ⌜ Reaches (now (xs .entry)) r ⌝ }
+    ensures is { λ r. ⌜ ((p : Parts) (number : ℕ) → PassedNumbers p start number elements → partOf at p r ≡ bodySection at (now (xs .entry)) p) ⌝ }
+    ensures inside { λ r. ⌜ PartWithin (now (xs .entry)) r ⌝ }
 {
     if 0 < start {
         return refused(11, at);
@@ -35,8 +35,8 @@ fn body_section(xs: &[u8], at: usize, start: usize, elements: u32) -> Part
 // The section at the start of xs.
 fn section(e: Edition, xs: &[u8], at: usize, start: usize, count: usize, elements: u32) -> Part
     requires { ⌜ (0 < length (now xs)) × (at + length (now xs) < 2 ^ 31) ⌝ }
-    ensures is { λ r. ⌜ ((p : Parts) → Carries p start count elements → partOf at p r ≡ sectionAt e at (now (xs .entry)) p) ⌝ }
-    ensures inside { λ r. ⌜ Reaches (now (xs .entry)) r ⌝ }
+    ensures is { λ r. ⌜ ((p : Parts) → PassedNumbers p start count elements → partOf at p r ≡ sectionAt e at (now (xs .entry)) p) ⌝ }
+    ensures inside { λ r. ⌜ PartWithin (now (xs .entry)) r ⌝ }
 {
     let kind = xs[0];
     if kind == 0 {
@@ -70,7 +70,7 @@ fn nothing(verdict: Verdict) -> Content
 // All sections of a message; xs are their bytes, which start at 20.
 pub fn sections(e: Edition, xs: &[u8]) -> Content
     requires { ⌜ length (now xs) < 2 ^ 30 ⌝ }
-    ensures { λ r. ⌜ Listed e (now (xs .entry)) r ⌝ }
+    ensures { λ r. ⌜ SectionsTold e (now (xs .entry)) r ⌝ }
 {
     let mut i = 0;
     let mut body = 0;

@@ -17,13 +17,13 @@ partOf at p (Part.Sequenced entry size elements) = behind p size (sequence at en
 partOf at p (Part.Refused number place) = refused number place
 
 -- it lies within xs, which begin with its kind byte, and elements fill a body
-abbrev pub Reaches : List ℕ → Part → Type 0
-Reaches xs (Part.Body size elements) = (5 ≤ size) × (1 + size ≤ lib.ListN.length xs) × Filled (take (size - 5) (drop 5 xs))
-Reaches xs (Part.Sequenced entry size elements) = (6 ≤ size) × (size ≤ lib.ListN.length xs)
-Reaches xs (Part.Refused number place) = Unit {0}
+abbrev pub PartWithin : List ℕ → Part → Type 0
+PartWithin xs (Part.Body size elements) = (5 ≤ size) × (1 + size ≤ lib.ListN.length xs) × Filled (take (size - 5) (drop 5 xs))
+PartWithin xs (Part.Sequenced entry size elements) = (6 ≤ size) × (size ≤ lib.ListN.length xs)
+PartWithin xs (Part.Refused number place) = Unit {0}
 
 -- the numbers that a section's reader wants of those passed: a body's start, the number of sequences, the elements counted
-pub record Carries (p : Parts) (start number elements : ℕ) : Type 0 where
+pub record PassedNumbers (p : Parts) (start number elements : ℕ) : Type 0 where
   pub start-is : bodyStart (p .sections) ≡ start
   pub number-is : lib.ListN.length (sequencesOf (p .sections)) ≡ number
   pub elements-is : p .elements ≡ elements

@@ -1,6 +1,6 @@
 // Checks 12 to 21: a section that is a document sequence. A slice starts at the place `at` of the message, and ends below 2 ^ 31.
 use opmsg::Sequence;
-use opmsg_documents::Run;
+use opmsg_documents::Counted;
 use opmsg_documents::documents;
 use wire::under;
 use wire::until_zero;
@@ -9,7 +9,7 @@ ghost use mathlib.Core.Path.{_≡_};
 ghost use Prim.Native.Nat.{ℕ, _+_, _^_, _<_, _≤_};
 ghost use lib.ListN.{length};
 ghost use Rattle.opmsg.specs.Sections.{Parts, sequenceRun, sequenceNamed, sequenceSection};
-ghost use Rattle.opmsg_sequences.specs.Inner.{partOf, Reaches, Carries};
+ghost use Rattle.opmsg_sequences.specs.Inner.{partOf, PartWithin, PassedNumbers};
 
 // The most sequences of a message.
 pub const MAX_SEQUENCES: usize = 16;
@@ -43,12 +43,12 @@ pub fn refused(number: u32, place: usize) -> Part
 fn sequence_documents(xs: &[u8], at: usize, n: usize, size: usize, elements: u32) -> Part
     requires { ⌜ (n + 5 ≤ size) × (1 + size ≤ length (now xs)) × (at + length (now xs) < 2 ^ 31) ⌝ }
     ensures is { λ r. ⌜ ((p : Parts) → p .elements ≡ elements → partOf at p r ≡ sequenceRun n size at (now (xs .entry)) p) ⌝ }
-    ensures inside { λ r. ⌜ Reaches (now (xs .entry)) r ⌝ }
+    ensures inside { λ r. ⌜ PartWithin (now (xs .entry)) r ⌝ }
 {
     let start = n + 6;
     let end = 1 + size;
     match documents(&xs[start..end], (at + start) as u32, elements) {
-        Run::Past {
+        Counted::Past {
             documents,
             elements: counted,
         } => {
@@ -65,7 +65,7 @@ fn sequence_documents(xs: &[u8], at: usize, n: usize, size: usize, elements: u32
                 elements: counted,
             }
         }
-        Run::Refused { number, place } => Part::Refused { number, place },
+        Counted::Refused { number, place } => Part::Refused { number, place },
     }
 }
 
@@ -73,7 +73,7 @@ fn sequence_documents(xs: &[u8], at: usize, n: usize, size: usize, elements: u32
 fn sequence_named(xs: &[u8], at: usize, size: usize, elements: u32) -> Part
     requires { ⌜ (5 ≤ size) × (1 + size ≤ length (now xs)) × (at + length (now xs) < 2 ^ 31) ⌝ }
     ensures is { λ r. ⌜ ((p : Parts) → p .elements ≡ elements → partOf at p r ≡ sequenceNamed size at (now (xs .entry)) p) ⌝ }
-    ensures inside { λ r. ⌜ Reaches (now (xs .entry)) r ⌝ }
+    ensures inside { λ r. ⌜ PartWithin (now (xs .entry)) r ⌝ }
 {
     let end = 1 + size;
     let n = until_zero(&xs[5..end]);
@@ -89,8 +89,8 @@ fn sequence_named(xs: &[u8], at: usize, size: usize, elements: u32) -> Part
 // Kind 1; xs begins with the kind byte. `count` sequences were passed before.
 pub fn sequence_section(xs: &[u8], at: usize, count: usize, elements: u32) -> Part
     requires { ⌜ (0 < length (now xs)) × (at + length (now xs) < 2 ^ 31) ⌝ }
-    ensures is { λ r. ⌜ ((p : Parts) (start : ℕ) → Carries p start count elements → partOf at p r ≡ sequenceSection at (now (xs .entry)) p) ⌝ }
-    ensures inside { λ r. ⌜ Reaches (now (xs .entry)) r ⌝ }
+    ensures is { λ r. ⌜ ((p : Parts) (start : ℕ) → PassedNumbers p start count elements → partOf at p r ≡ sequenceSection at (now (xs .entry)) p) ⌝ }
+    ensures inside { λ r. ⌜ PartWithin (now (xs .entry)) r ⌝ }
 {
     if MAX_SEQUENCES <= count {
         return refused(14, at);

@@ -10,7 +10,7 @@ ghost use lib.ListN.{length};
 ghost use Rattle.relay_log.specs.Inner.{bufferLength, turns, Held};
 
 // Where a run stands: the bytes at hand are those of the buffer from `at` to `end`, and `offset` counts those before them.
-struct Run {
+struct Progress {
     at: usize,
     end: usize,
     offset: u64,
@@ -69,7 +69,7 @@ fn fill(fd: i32, buf: &mut [u8], at: usize, end: usize) -> usize
 }
 
 // Takes what comes next.
-fn turn(fd: i32, buf: &mut [u8], run: Run) -> Run
+fn turn(fd: i32, buf: &mut [u8], run: Progress) -> Progress
     requires { ⌜ Held run × (bufferLength ≡ length (now buf)) × (run .messages < turns) ⌝ }
     ensures { λ r. ⌜ Held r × (r .messages ≤ run .messages + 1) ⌝ }
 {
@@ -101,7 +101,7 @@ fn turn(fd: i32, buf: &mut [u8], run: Run) -> Run
 fn list(fd: i32, buf: &mut [u8]) -> u64
     requires { ⌜ bufferLength ≡ length (now buf) ⌝ }
 {
-    let mut run = Run {
+    let mut run = Progress {
         at: 0,
         end: 0,
         offset: 0,

@@ -31,7 +31,7 @@ size-is c p =
     let ys = drop (untilZero (drop 1 xs) + 2) xs in
     let part : take (length xs - (u .until-zero .result + 2)) (drop (u .until-zero .result + 2) xs) ≡ ys =
     rest-part (u .until-zero .result + 2) xs ∙ ap (λ (n : ℕ). drop (n + 2) xs) (until-is u) in
-    let e : ruleOf (k .kind .given .0 .0) ≡ p .rule = ok-same (rw (k .kind .given .1) at (k .before .before .kind-of .ensures 0) ∙ p .listed) in
+    let e : ruleOf (k .kind .given .0 .0) ≡ p .rule = ok-same (rw (k .kind .given .1) at (k .before .before .kind-of .ensures 0) ∙ p .ruleFound) in
     (rw part at (c .skip .ensures v (p .value))) (ap (λ (f : Rule). f v ys) e ∙ p .kept)
 
 add-if2 : tie.Need-add-if2
@@ -41,7 +41,7 @@ returns-2 : tie.Need-returns-2
 returns-2 c = λ h l. absurd (omega (arith, element-is _ h .named, until-is (c .before), c .if2 .taken))
 
 returns-3 : tie.Need-returns-3
-returns-3 c = λ h l. not-ok (rw (c .enum-told .given .1) at (c .before .before .kind-of .ensures 0) ∙ element-is _ h .listed)
+returns-3 c = λ h l. not-ok (rw (c .enum-told .given .1) at (c .before .before .kind-of .ensures 0) ∙ element-is _ h .ruleFound)
 
 returns-4 : tie.Need-returns-4
 returns-4 c = λ h l.

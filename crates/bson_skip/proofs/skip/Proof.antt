@@ -21,7 +21,7 @@ returns-4 : tie.Need-returns-4
 returns-4 c = λ v x h. ap (λ (w : ℕ). 5 + w) (c .word2 .ensures) ∙ bytes-is _ _ _ x (λ n e. binary-is v _ n e) (rw (c .before .enum-told3 .given .1) at h)
 
 returns-5 : tie.Need-returns-5
-returns-5 c = λ v x h. bytes-is _ _ _ x (λ n e. c .taken .ensures v n (c .before .regex .ensures .0 v ∙ e)) (rw (c .before .before .enum-told4 .given .1) at h)
+returns-5 c = λ v x h. bytes-is _ _ _ x (λ n e. c .extent-size .ensures v n (c .before .regex .ensures .0 v ∙ e)) (rw (c .before .before .enum-told4 .given .1) at h)
 
 returns-6 : tie.Need-returns-6
 returns-6 c = λ v x h. ap (λ (w : ℕ). 16 + w) (c .word3 .ensures) ∙ bytes-is _ _ _ x (λ n e. pointer-is v _ n e) (rw (c .before .enum-told5 .given .1) at h)

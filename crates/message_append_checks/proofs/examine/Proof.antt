@@ -7,7 +7,7 @@ use borrow.Author.Needs.{needs}
 use Rattle.opmsg.specs.Sections.{maxSequences}
 use Rattle.opmsg.specs.Inner.{judged}
 use Rattle.opmsg.proofs.Limits.{maxLength-small}
-use Rattle.opmsg_documents.specs.Inner.{ran}
+use Rattle.opmsg_documents.specs.Inner.{toldRun}
 use Rattle.message_append_checks.specs.Inner.{Ready}
 use Rattle.message_append_checks.proofs.Appending.{allows}
 use Rattle.message_append_checks.proofs.Answers.{checksum-within, checks-refuse, documents-refuse, documents-ready, ready-allowed, ready-low, ready-inside, ready-filled, ready-body, ready-taken, ready-grown}
@@ -22,16 +22,16 @@ returns c =
     let p3 = c .before .before .before in
     let p5 = p3 .before .before in
     let p9 = p5 .before .before .before .before in
-    checks-refuse _ _ _ (p9 .pre) _ (p5 .checksum-size .ensures) (p9 .args .identifier .now) (p9 .args .documents .now) (p9 .args .room) (sym (p3 .checks .ensures) ∙ ap judged (c .before .passed .given .1))
+    checks-refuse _ _ _ (p9 .pre) _ (p5 .checksum-size .ensures) (p9 .args .identifier .now) (p9 .args .documents .now) (p9 .args .room) (sym (p3 .between-readings .ensures) ∙ ap judged (c .before .passed .given .1))
 
 cast-documents : tie.Need-cast-documents
 cast-documents c =
-    let a = allows _ _ _ _ _ _ (sym (c .before .before .checks .ensures) ∙ ap judged (c .enum-told .given .1)) in
+    let a = allows _ _ _ _ _ _ (sym (c .before .before .between-readings .ensures) ∙ ap judged (c .enum-told .given .1)) in
     omega (arith, a .limit, maxLength-small)
 
 documents-requires : tie.Need-documents-requires
 documents-requires c κs =
-    let a = allows _ _ _ _ _ _ (sym (c .before .before .checks .ensures) ∙ ap judged (c .enum-told .given .1)) in
+    let a = allows _ _ _ _ _ _ (sym (c .before .before .between-readings .ensures) ∙ ap judged (c .enum-told .given .1)) in
     omega (arith, a .limit, maxLength-small)
 
 -- the checks are passed and the documents are counted: only names are left to check
@@ -46,7 +46,7 @@ ready q =
     let k = t .before .before in
     let m = k .before .before in
     let a = m .before .before .before .before in
-    documents-ready _ _ _ (a .pre) _ (m .checksum-size .ensures) (a .args .identifier .now) (a .args .documents .now) (a .args .room) (sym (k .checks .ensures) ∙ ap judged (t .enum-told .given .1)) (sym (d .documents .ensures _ (omega arith)) ∙ ap ran (q .number .given .1))
+    documents-ready _ _ _ (a .pre) _ (m .checksum-size .ensures) (a .args .identifier .now) (a .args .documents .now) (a .args .room) (sym (k .between-readings .ensures) ∙ ap judged (t .enum-told .given .1)) (sym (d .documents .ensures _ (omega arith)) ∙ ap toldRun (q .number .given .1))
 
 repeated-requires : tie.Need-repeated-requires
 unfolding maxSequences
@@ -69,7 +69,7 @@ returns-4 c =
     let p6 = p4 .before .before in
     let p8 = p6 .before .before in
     let p12 = p8 .before .before .before .before in
-    documents-refuse _ _ _ (p12 .pre) _ (p8 .checksum-size .ensures) (p12 .args .identifier .now) (p12 .args .documents .now) (p12 .args .room) (sym (p6 .checks .ensures) ∙ ap judged (p4 .enum-told .given .1)) (sym (p3 .documents .ensures _ (omega arith)) ∙ ap ran (c .before .number2 .given .1))
+    documents-refuse _ _ _ (p12 .pre) _ (p8 .checksum-size .ensures) (p12 .args .identifier .now) (p12 .args .documents .now) (p12 .args .room) (sym (p6 .between-readings .ensures) ∙ ap judged (p4 .enum-told .given .1)) (sym (p3 .documents .ensures _ (omega arith)) ∙ ap toldRun (c .before .number2 .given .1))
 
 pub examine-spec : {M : Type 1} → statement M
 examine-spec =

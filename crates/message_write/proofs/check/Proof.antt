@@ -8,7 +8,7 @@ use Rattle.message_write.proofs.check.Statement.{statement}
 use Rattle.message_write.proofs.check.Tie as tie
 
 returns : tie.Need-returns
-returns c = rw (c .enum-told2 .given .1) (rw (c .enum-told2 .given .1) at (c .before .before .checks .ensures))
+returns c = rw (c .enum-told2 .given .1) (rw (c .enum-told2 .given .1) at (c .before .before .before-reading .ensures))
 
 returns-2 : tie.Need-returns-2
 returns-2 c =
@@ -16,8 +16,8 @@ returns-2 c =
     let p3 = p2 .before in
     let p5 = p3 .before .before in
     let p7 = p5 .before .before in
-    let fit = rw (p3 .enum-told .given .1) at (p5 .checks .ensures) in
-    λ i j fi fj. (_, write-accepted (p7 .args .e) i j (p7 .args .flags) (p7 .args .body .now) (p7 .args .room) fit (p7 .fits .flags .fits) fi fj (sym (p2 .examine .ensures) ∙ ap told (c .enum-told3 .given .1)))
+    let fit = rw (p3 .enum-told .given .1) at (p5 .before-reading .ensures) in
+    λ i j fi fj. (_, write-accepted (p7 .args .e) i j (p7 .args .flags) (p7 .args .body .now) (p7 .args .room) fit (p7 .fits .flags .fits) fi fj (sym (p2 .examine-body .ensures) ∙ ap told (c .enum-told3 .given .1)))
 
 returns-3 : tie.Need-returns-3
 returns-3 c =
@@ -25,8 +25,8 @@ returns-3 c =
     let p4 = p3 .before in
     let p6 = p4 .before .before in
     let p8 = p6 .before .before in
-    let fit = rw (p4 .enum-told .given .1) at (p6 .checks .ensures) in
-    λ i j. write-refused (p8 .args .e) i j (p8 .args .flags) (p8 .args .body .now) (p8 .args .room) fit (p8 .fits .flags .fits) (sym (p3 .examine .ensures) ∙ ap told (c .before .number .given .1))
+    let fit = rw (p4 .enum-told .given .1) at (p6 .before-reading .ensures) in
+    λ i j. write-refused (p8 .args .e) i j (p8 .args .flags) (p8 .args .body .now) (p8 .args .room) fit (p8 .fits .flags .fits) (sym (p3 .examine-body .ensures) ∙ ap told (c .before .number .given .1))
 
 pub check-spec : {M : Type 1} → statement M
 check-spec =

@@ -22,12 +22,12 @@ returns c =
     let p2 = c .before .before in
     let p4 = p2 .before .before in
     let p7 = p4 .before .before .before in
-    let h = rw (p2 .checked .given .1) at (p4 .checks .ensures) in
+    let h = rw (p2 .checked .given .1) at (p4 .before-reading .ensures) in
     rw (c .refusal .ensures, h (p7 .args .request-id) (p7 .args .response-to)) (refl, refl)
 
 -- the checks are passed
 fit : (c : tie.After-enum-told) → let a = c .before .before .before .before .before .args in Fit (a .e) (a .flags) (a .body .now) (length (a .out .now))
-fit c = rw (c .enum-told .given .1) at (c .before .before .checks .ensures)
+fit c = rw (c .enum-told .given .1) at (c .before .before .before-reading .ensures)
 
 whole-requires : tie.Need-whole-requires
 unfolding wholeLength
@@ -58,7 +58,7 @@ returns-2 c =
     let i = toZ-ofZ (p15 .fits .request-id) in
     let j = toZ-ofZ (p15 .fits .response-to) in
     let n : p5 .whole .result ≡ wholeLength (p15 .args .flags) (0 ∷ p15 .args .body .now) = omega (arith, p5 .whole .ensures) in
-    rw (write-accepted (p15 .args .e) (p15 .args .request-id) (p15 .args .response-to) (p15 .args .flags) (p15 .args .body .now) _ (fit (c .before .before .before .before .before .before .before .before .before .before)) (p15 .fits .flags .fits) (p15 .fits .request-id) (p15 .fits .response-to) (sym (p9 .examine .ensures) ∙ ap told (p7 .count .given .1)))
+    rw (write-accepted (p15 .args .e) (p15 .args .request-id) (p15 .args .response-to) (p15 .args .flags) (p15 .args .body .now) _ (fit (c .before .before .before .before .before .before .before .before .before .before)) (p15 .fits .flags .fits) (p15 .fits .request-id) (p15 .fits .response-to) (sym (p9 .examine-body .ensures) ∙ ap told (p7 .count .given .1)))
     (rw (p4 .view .ensures, i, j, n), rw (i, j) at (p2 .written .ensures))
 
 returns-3 : tie.Need-returns-3
@@ -67,7 +67,7 @@ returns-3 c =
     let p2 = c .before .before in
     let p4 = p2 .before .before in
     let p10 = p4 .before .before .before .before .before .before in
-    rw (c .refusal2 .ensures, write-refused (p10 .args .e) (p10 .args .request-id) (p10 .args .response-to) (p10 .args .flags) (p10 .args .body .now) _ (fit (c .before .before .before .before .before)) (p10 .fits .flags .fits) (sym (p4 .examine .ensures) ∙ ap told (p2 .number .given .1))) (refl, refl)
+    rw (c .refusal2 .ensures, write-refused (p10 .args .e) (p10 .args .request-id) (p10 .args .response-to) (p10 .args .flags) (p10 .args .body .now) _ (fit (c .before .before .before .before .before)) (p10 .fits .flags .fits) (sym (p4 .examine-body .ensures) ∙ ap told (p2 .number .given .1))) (refl, refl)
 
 pub write-spec : {M : Type 1} → statement M
 write-spec =

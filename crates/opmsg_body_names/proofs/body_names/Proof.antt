@@ -12,12 +12,12 @@ use Rattle.wire.proofs.Parts.{rest-part}
 use Rattle.opmsg.specs.Names.{among}
 use Rattle.opmsg_body_names.specs.Inner.{nameText, namesOf}
 use Rattle.opmsg_body_names.proofs.Distinct.{not-accepted}
-use Rattle.opmsg_body_names.proofs.Elements.{Reached, reached-size, reached-next, Listed, listed-none, listed-unmarked, listed-again, listed-next, listed-all, listed-marks}
+use Rattle.opmsg_body_names.proofs.Elements.{Reached, reached-size, reached-next, NamesPassed, listed-none, listed-unmarked, listed-again, listed-next, listed-all, listed-marks}
 use Rattle.opmsg_body_names.proofs.body_names.Statement.{statement}
 use Rattle.opmsg_body_names.proofs.body_names.Tie as tie
 
 abbrev Inv-loop : tie.InvT-loop
-Inv-loop xs at marks₀ k₀ i₀ marks k i = Listed at xs i k marks
+Inv-loop xs at marks₀ k₀ i₀ marks k i = NamesPassed at xs i k marks
 
 abbrev μ-loop : tie.MeasureT-loop
 μ-loop xs at marks₀ k₀ i₀ marks k i = length xs - i

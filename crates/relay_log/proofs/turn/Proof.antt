@@ -9,12 +9,12 @@ use lib.Seq.{length-take-le}
 use borrow.Author.Needs.{needs}
 use Rattle.opmsg.specs.Layout.{maxLength}
 use Rattle.relay_log.specs.Inner.{bufferLength, Held}
-use Rattle.relay_log.specs.declared.Run.{Run}
+use Rattle.relay_log.specs.declared.Progress.{Progress}
 use Rattle.relay_log.proofs.turn.Statement.{statement}
 use Rattle.relay_log.proofs.turn.Tie as tie
 
 -- how many bytes are at hand
-at-hand : (run : Run) (buf : List ℕ) → Held run → bufferLength ≡ length buf → length (take (run .end - run .at) (drop (run .at) buf)) ≡ run .end - run .at
+at-hand : (run : Progress) (buf : List ℕ) → Held run → bufferLength ≡ length buf → length (take (run .end - run .at) (drop (run .at) buf)) ≡ run .end - run .at
 at-hand run buf h e = length-take-le (run .end - run .at) (drop (run .at) buf) (simp length-drop (omega arith))
 
 add-run-2 : tie.Need-add-run-2

@@ -1,4 +1,4 @@
--- `message_append_checks::checks::checks` meets its contract: each way out has its tests.
+-- `message_append_checks::checks::between_readings` meets its contract: each way out has its tests.
 -- Assumes nothing.
 use Prim.Native.Nat.{_+_}
 use mathlib.Core.Path.{sym, _∙_}
@@ -11,8 +11,8 @@ use Rattle.opmsg.specs.Flags.{knows}
 use Rattle.opmsg.specs.Layout.{maxLength}
 use Rattle.opmsg.specs.Sections.{maxSequences}
 use Rattle.message_append_checks.specs.Inner.{allowed}
-use Rattle.message_append_checks.proofs.checks.checks.Statement.{statement}
-use Rattle.message_append_checks.proofs.checks.checks.Tie as tie
+use Rattle.message_append_checks.proofs.checks.between_readings.Statement.{statement}
+use Rattle.message_append_checks.proofs.checks.between_readings.Tie as tie
 
 returns : tie.Need-returns
 unfolding allowed _>>=_ refuse knows
@@ -79,8 +79,8 @@ returns-7 c =
     let p6 = p5 .before in
     rw (allowed, p6 .before .if1 .left, lt-leb _ _ (p6 .if2 .left), ne-eqb _ _ (p5 .if3 .left), ← p4 .until-zero .ensures, le-ltb _ _ (p3 .if4 .left), ← p2 .too-long .ensures, c .before .if5 .left, le-ltb _ _ (c .if6 .left))
 
-pub checks-spec : {M : Type 1} → statement M
-checks-spec =
+pub between-readings-spec : {M : Type 1} → statement M
+between-readings-spec =
     tie.close
     (tie.spec
     (λ c κs. search needs)

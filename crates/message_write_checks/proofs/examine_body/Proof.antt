@@ -1,4 +1,4 @@
--- `message_write_checks::examine` meets its contract: the document, and then its names.
+-- `message_write_checks::examine_body` meets its contract: the document, and then its names.
 -- Assumes nothing.
 use mathlib.Core.Path.{refl, sym}
 use native.Mathlib.Omega.{arith}
@@ -8,8 +8,8 @@ use Rattle.wire.specs.Outcome.{_>>=_}
 use Rattle.bson.proofs.Frame.{Framed}
 use Rattle.opmsg_documents.proofs.Turns.{past-framed}
 use Rattle.message_write_checks.proofs.Examined.{body-refused, body-filled, body-named}
-use Rattle.message_write_checks.proofs.examine.Statement.{statement}
-use Rattle.message_write_checks.proofs.examine.Tie as tie
+use Rattle.message_write_checks.proofs.examine_body.Statement.{statement}
+use Rattle.message_write_checks.proofs.examine_body.Tie as tie
 
 returns : tie.Need-returns
 returns c =
@@ -54,8 +54,8 @@ returns-3 c =
     let p8 = p6 .before .before in
     sym (rw (c .enum-told2 .given .1) at (body-named (p8 .before .before .args .body .now) (p8 .document .result) (p8 .document .ensures) (p6 .w .given .1) (p2 .body-names .result) (p2 .body-names .ensures .0)))
 
-pub examine-spec : {M : Type 1} → statement M
-examine-spec =
+pub examine-body-spec : {M : Type 1} → statement M
+examine-body-spec =
     tie.close
     (tie.spec
     (λ c κs. search needs)

@@ -1,4 +1,4 @@
--- `message_write_checks::checks` meets its contract: each way out has its tests.
+-- `message_write_checks::before_reading` meets its contract: each way out has its tests.
 -- Assumes nothing.
 use mathlib.Core.Path.{ap, _∙_}
 use mathlib.Core.Bool.{not}
@@ -11,8 +11,8 @@ use Rattle.opmsg.specs.Layout.{maxLength}
 use Rattle.opmsg.proofs.Limits.{checksum-small}
 use Rattle.message.specs.Message.{wholeLength}
 use Rattle.message.specs.Write.{write}
-use Rattle.message_write_checks.proofs.checks.Statement.{statement}
-use Rattle.message_write_checks.proofs.checks.Tie as tie
+use Rattle.message_write_checks.proofs.before_reading.Statement.{statement}
+use Rattle.message_write_checks.proofs.before_reading.Tie as tie
 
 returns : tie.Need-returns
 unfolding write
@@ -105,8 +105,8 @@ returns-6 c =
       stated = rw (← c .before .word .ensures) (c .if5 .left);
     }
 
-pub checks-spec : {M : Type 1} → statement M
-checks-spec =
+pub before-reading-spec : {M : Type 1} → statement M
+before-reading-spec =
     tie.close
     (tie.spec
     (λ c κs. search needs)
