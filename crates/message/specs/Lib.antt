@@ -5,3 +5,4 @@ pub mod Append
 pub mod Editions
 pub mod Demand3
 pub mod RoundTrip
+pub mod Inner

@@ -11,10 +11,11 @@ ghost use mathlib.Core.Path.{_≡_};
 ghost use Prim.Native.Nat.{_+_, _^_, _<_};
 ghost use lib.ListN.{length};
 ghost use Rattle.opmsg.specs.View.{answer};
+ghost use Rattle.opmsg.specs.Inner.{judged};
 ghost use Rattle.message.specs.Message.{viewed, output};
 ghost use Rattle.message.specs.Append.{append};
+ghost use Rattle.message.specs.Inner.{decided};
 ghost use Rattle.message_append_checks.specs.Inner.{grown};
-ghost use Rattle.message_append.specs.Inner.{Decided};
 
 // The view with one sequence more: its kind byte is at a place, its identifier has n bytes and its documents d.
 fn grown(v: View, at: usize, n: usize, d: usize, documents: u32, elements: u32) -> View
@@ -45,7 +46,7 @@ fn grown(v: View, at: usize, n: usize, d: usize, documents: u32, elements: u32) 
 
 // What appending to an output with so much room answers; nothing is written.
 pub fn check(e: Edition, s: &[u8], identifier: &[u8], documents: &[u8], room: usize) -> Verdict
-    ensures { λ r. ⌜ Decided (append e (now (s .entry)) (now (identifier .entry)) (now (documents .entry)) room) r ⌝ }
+    ensures { λ r. ⌜ judged r ≡ decided (append e (now (s .entry)) (now (identifier .entry)) (now (documents .entry)) room) ⌝ }
 {
     let found = opmsg_read::read(e, s);
     let verdict = found.verdict;

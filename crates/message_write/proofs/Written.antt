@@ -30,6 +30,7 @@ use Rattle.opmsg.proofs.Bits.{Known, allKnown-known, known-allKnown, bits-known
 use Rattle.opmsg.proofs.Accepted.{Sound, read-content}
 use Rattle.message.specs.Message.{wholeLength}
 use Rattle.message.specs.Write.{written, write}
+use Rattle.message.specs.Inner.{decided}
 use Rattle.message.proofs.Message.{Headed, message-word, message-flags, message-end, message-sections, message-sound}
 use Rattle.message_write_checks.specs.Inner.{Fit, bodyExamined}
 use Rattle.message_write.specs.Inner.{shown}
@@ -62,6 +63,12 @@ content-alone : {A B : Type 0} (o : Outcome (Unit {0})) (d : A) (f : A → B) �
 unfolding _>>=_
 content-alone (ok u) d f = refl
 content-alone (refused number place) d f = refl
+
+-- what is decided forgets what is shown
+forget : {A B C : Type 0} (o : Outcome A) (f : A → B) (g : B → C) → decided (o >>= (λ a. ok (f a)) >>= λ b. ok (g b)) ≡ decided o
+unfolding decided _>>=_
+forget (ok a) f g = refl
+forget (refused number place) f g = refl
 
 -- ---- the message that is written
 
@@ -117,6 +124,10 @@ module _ (e : Edition) (i j : ℤ) (flags : ℕ) (s : List ℕ) (room : ℕ) (fi
       ∙ pass 25 0 _ (le-ltb room n (fit .holds))
       ∙ pass 15 21 _ (le-ltb (length s) 4 (fit .least))
       ∙ pass 15 21 _ (ap not (eq-eqb (word s) (length s) (fit .stated)))
+
+  -- what it decides is decided by the body
+  pub write-decided : decided (write e i j flags s room) ≡ decided (bodyExamined s)
+  write-decided = rw (write-reads, written-read) (forget (bodyExamined s) _ _)
 
   -- the body is refused, or one of its names
   pub write-refused : {number place : ℕ} → bodyExamined s ≡ refused number place → write e i j flags s room ≡ refused number place

@@ -11,12 +11,15 @@ use opmsg_flags::checksum_size;
 use opmsg_view::refusal;
 ghost use mathlib.Core.Path.{_≡_};
 ghost use Prim.Native.Nat.{_+_, _^_, _<_};
+ghost use lib.IntN.{ℤ};
 ghost use lib.ListN.{length};
 ghost use Rattle.opmsg.specs.Layout.{checksumSize};
 ghost use Rattle.opmsg.specs.View.{answer};
+ghost use Rattle.opmsg.specs.Inner.{judged};
 ghost use Rattle.message.specs.Message.{viewed, output};
 ghost use Rattle.message.specs.Write.{write};
-ghost use Rattle.message_write.specs.Inner.{Decided, shown};
+ghost use Rattle.message.specs.Inner.{decided};
+ghost use Rattle.message_write.specs.Inner.{shown};
 
 // How long the message is.
 fn whole(flags: u32, size: usize) -> u32
@@ -89,9 +92,9 @@ pub fn write(
     }
 }
 
-// Whether writing refuses, given room for so many bytes: nothing is written.
+// What writing to an output with so much room answers, whatever the ids; nothing is written.
 pub fn check(e: Edition, flags: u32, body: &[u8], room: usize) -> Verdict
-    ensures { λ r. ⌜ Decided e flags (now (body .entry)) room r ⌝ }
+    ensures { λ r. ⌜ ((requestId responseTo : ℤ) → judged r ≡ decided (write e requestId responseTo flags (now (body .entry)) room)) ⌝ }
 {
     let checked = before_reading(e, flags, body, room);
     let Verdict::Accepted = checked else {

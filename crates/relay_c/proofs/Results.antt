@@ -6,19 +6,13 @@ use mathlib.Core.List.{List, _++_}
 use native.Mathlib.Omega.{arith}
 use lib.ListN.{length, drop}
 use lib.IntN.{ℤ}
-use mir.Syntax.{w32}
-use mir.Val.{SFits}
 use Rattle.wire.specs.Outcome.{Outcome, ok, refused, _>>=_}
 use Rattle.opmsg.specs.View.{answer}
 use Rattle.opmsg.specs.Inner.{judged}
-use Rattle.opmsg.specs.declared.Edition.{Edition}
 use Rattle.opmsg.specs.declared.Verdict.{Verdict}
-use Rattle.opmsg.specs.declared.Verdict.the-variants.{Accepted, Refused}
 use Rattle.opmsg.specs.declared.Reading.{Reading}
 use Rattle.message.specs.Message.{Written, viewed, output}
-use Rattle.message.specs.Write.{write}
-use Rattle.message_write.specs.Inner as writing
-use Rattle.message_append.specs.Inner.{Decided}
+use Rattle.message.specs.Inner.{decided}
 use Rattle.relay_c_results.specs.Numbers.{viewNumbers, viewSize}
 use Rattle.relay_c_results.specs.Interface.{outcome, withRoom, result, numbers}
 use Rattle.relay_c_results.proofs.Room.{outcome-answer, own-refusal, no-room, has-room}
@@ -41,17 +35,11 @@ module _ (room : ℕ) (o : Outcome Written) (old : List ℕ) (view : List ℤ) w
   accepted-leaves out shown h a b = rw h (refl, (a, b))
 
 -- with no room for the view a call refuses, by what it decides without writing
-pub short : (room : ℕ) (o : Outcome Written) (v : Verdict) (old : List ℕ) (view : List ℤ) {code : ℕ} → room < viewSize → Decided o v → code ≡ result (withRoom 0 (judged v))
+pub short : (room : ℕ) (o : Outcome Written) (v : Verdict) (old : List ℕ) (view : List ℤ) {code : ℕ} → room < viewSize → judged v ≡ decided o → code ≡ result (withRoom 0 (judged v))
     → Promised room o code old old view view
-unfolding result viewSize
-short room o Accepted old view l d c = refused-leaves room o old view (no-room room o l (d .1)) (c ∙ rw (no-room 0 (judged Accepted) (omega arith) refl))
-short room o (Refused number place) old view l d c = refused-leaves room o old view (own-refusal room o d) (c ∙ rw (own-refusal 0 (judged (Refused number place)) refl))
-
--- what writing decides, whatever the ids
-pub decided : (e : Edition) (flags : ℕ) (body : List ℕ) (room : ℕ) (v : Verdict) (i j : ℤ) → writing.Decided e flags body room v → SFits w32 i → SFits w32 j
-    → Decided (write e i j flags body room) v
-decided e flags body room Accepted i j d a b = d i j a b
-decided e flags body room (Refused number place) i j d a b = d i j
+unfolding result viewSize decided _>>=_
+short room (ok w) v old view l d c = refused-leaves room (ok w) old view (no-room room (ok w) l refl) (c ∙ rw (no-room 0 (judged v) (omega arith) d))
+short room (refused number place) v old view l d c = refused-leaves room (refused number place) old view (own-refusal room (refused number place) refl) (c ∙ rw (own-refusal 0 (judged v) d))
 
 -- with room for it, what the call answers is told
 pub told : (room : ℕ) (o : Outcome Written) (old out : List ℕ) (view shown : List ℤ) (r : Reading) {code : ℕ} → viewSize ≤ room → r ≡ answer (viewed o) → out ≡ output o old

@@ -2,31 +2,42 @@
 -- Assumes nothing.
 use mathlib.Core.Path.{sym, ap, _∙_}
 use borrow.Author.Needs.{needs}
+use Rattle.wire.specs.Outcome.{_>>=_}
 use Rattle.bson.specs.Document.{told}
-use Rattle.message_write.proofs.Written.{write-refused, write-accepted}
+use Rattle.message.specs.Inner.{decided}
+use Rattle.message_write.proofs.Written.{write-decided}
 use Rattle.message_write.proofs.check.Statement.{statement}
 use Rattle.message_write.proofs.check.Tie as tie
 
 returns : tie.Need-returns
-returns c = rw (c .enum-told2 .given .1) (rw (c .enum-told2 .given .1) at (c .before .before .before-reading .ensures))
+unfolding decided _>>=_
+returns c =
+    let refuses = rw (c .enum-told2 .given .1) at (c .before .before .before-reading .ensures) in
+    λ i j. rw (c .enum-told2 .given .1, refuses i j)
 
 returns-2 : tie.Need-returns-2
+unfolding decided _>>=_
 returns-2 c =
     let p2 = c .before .before in
     let p3 = p2 .before in
     let p5 = p3 .before .before in
-    let p7 = p5 .before .before in
+    let start = p5 .before .before in
+    let a = start .args in
     let fit = rw (p3 .enum-told .given .1) at (p5 .before-reading .ensures) in
-    λ i j fi fj. (_, write-accepted (p7 .args .e) i j (p7 .args .flags) (p7 .args .body .now) (p7 .args .room) fit (p7 .fits .flags .fits) fi fj (sym (p2 .examine-body .ensures) ∙ ap told (c .enum-told3 .given .1)))
+    let read = sym (p2 .examine-body .ensures) ∙ ap told (c .enum-told3 .given .1) in
+    λ i j. rw (write-decided (a .e) i j (a .flags) (a .body .now) (a .room) fit (start .fits .flags .fits), read)
 
 returns-3 : tie.Need-returns-3
+unfolding decided _>>=_
 returns-3 c =
     let p3 = c .before .before .before in
     let p4 = p3 .before in
     let p6 = p4 .before .before in
-    let p8 = p6 .before .before in
+    let start = p6 .before .before in
+    let a = start .args in
     let fit = rw (p4 .enum-told .given .1) at (p6 .before-reading .ensures) in
-    λ i j. write-refused (p8 .args .e) i j (p8 .args .flags) (p8 .args .body .now) (p8 .args .room) fit (p8 .fits .flags .fits) (sym (p3 .examine-body .ensures) ∙ ap told (c .before .number .given .1))
+    let read = sym (p3 .examine-body .ensures) ∙ ap told (c .before .number .given .1) in
+    λ i j. rw (write-decided (a .e) i j (a .flags) (a .body .now) (a .room) fit (start .fits .flags .fits), read)
 
 pub check-spec : {M : Type 1} → statement M
 check-spec =

@@ -5,7 +5,7 @@ use mir.Facts.{toZ-ofZ}
 use borrow.Author.Needs.{needs}
 use Rattle.message.specs.Write.{write}
 use Rattle.relay_c_results.specs.Numbers.{viewSize}
-use Rattle.relay_c.proofs.Results.{short, decided, told}
+use Rattle.relay_c.proofs.Results.{short, told}
 use Rattle.relay_c.proofs.relay_write.Statement.{statement}
 use Rattle.relay_c.proofs.relay_write.Tie as tie
 
@@ -17,7 +17,7 @@ returns c =
     let a = e .before .before .before in
     let o = write (e .edition .result) (a .args .request-id) (a .args .response-to) (a .args .flags) (a .args .body .now) (length (a .args .out .now)) in
     rw (← e .edition .ensures)
-    (short _ o (k .check .result) _ _ (k .before .if1 .taken) (decided (e .edition .result) _ _ _ (k .check .result) _ _ (k .check .ensures) (a .fits .request-id) (a .fits .response-to)) (c .without-view .ensures))
+    (short _ o (k .check .result) _ _ (k .before .if1 .taken) (k .check .ensures (a .args .request-id) (a .args .response-to)) (c .without-view .ensures))
 
 returns-2 : tie.Need-returns-2
 unfolding viewSize
