@@ -4,7 +4,7 @@
 What a line has to say is known from how its message is made: nothing here reads a message.
 Run it at the repository's root, after `rt check`.
 """
-import os, random, struct, subprocess, sys, threading, time
+import os, random, struct, subprocess, sys, tempfile, threading, time
 
 PROGRAM = 'target/bin/relay_log'
 
@@ -139,6 +139,35 @@ def case(name, pair, **how):
         print(f'  line {k}: wrote {a[k : k + 2]}, expected {b[k : k + 2]}')
 
 
+def called(name, arguments, out, error, given=b'', output=None):
+    """Runs the program with arguments; compares what it writes, and what standard error has."""
+    global failed
+    done = subprocess.run([PROGRAM, *arguments], input=given, stdout=output or subprocess.PIPE, stderr=subprocess.PIPE, timeout=120)
+    good = (output is not None or done.stdout == out) and error in done.stderr and bool(done.stderr) == bool(error)
+    failed += not good
+    print(f'{"ok" if good else "WRONG"}\t{name}')
+    if not good:
+        print(f'  wrote {done.stdout}, and to standard error {done.stderr}')
+
+
+def arguments(ping):
+    """A file by its name, help, and what cannot be read or written."""
+    data, lines = stream([ping] * 3, b'xyz', (1, 0))
+    with tempfile.NamedTemporaryFile() as file:
+        file.write(data)
+        file.flush()
+        called('a file', [file.name], lines, b'', given=b'other bytes')
+    usage = subprocess.run([PROGRAM, '--help'], stdout=subprocess.PIPE, timeout=120).stdout
+    called('help', ['-h'], usage, b'')
+    called('more than one file', ['a', 'b'], b'', usage)
+    called('no such file', ['/no/such/file'], b'', b'/no/such/file: No such file')
+    called('a folder', ['/'], b'relay-log\t1\nend\t0\n', b'relay_log: read: Is a directory')
+    if not usage.startswith(b'usage: relay_log [FILE]\n'):
+        called('help begins with how it is called', ['--help'], b'usage: relay_log [FILE]', b'')
+    with open('/dev/full', 'wb') as full:
+        called('output that cannot be written', [], b'', b'relay_log: standard output: No space left', given=data, output=full)
+
+
 def main():
     r = random.Random(1)
     ping = Message(7, 0, 0, [integer(b'ping', 1)])
@@ -159,6 +188,7 @@ def main():
     case('one byte at a time', stream([ping] * 20, b'x', (1, 0)), chunk=1)
     case('parts of 5,000 bytes', stream(many[:2000]), chunk=5000)
     case('a long message in parts', stream([sized_message(49152)] * 3), chunk=1500)
+    arguments(ping)
     print('all as expected' if not failed else f'{failed} wrong')
     sys.exit(failed != 0)
 
