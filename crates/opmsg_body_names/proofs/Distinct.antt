@@ -36,12 +36,16 @@ marks-none marks h = record { size = h; shows = λ t h. unfold among in not-both
 abbrev one-more : List ℕ → ℕ → ℕ
 one-more marks slot = bitOr (getD marks (slot / 64) 0) (2 ^ (slot % 64))
 
-mark-made : (marks : List ℕ) (slot : ℕ) → slot / 64 < length marks → marked (marking marks slot) slot ≡ true
+pub marking-size : (marks : List ℕ) (slot : ℕ) → length (marking marks slot) ≡ length marks
+unfolding marking
+marking-size marks slot = length-set marks (slot / 64) (one-more marks slot)
+
+pub mark-made : (marks : List ℕ) (slot : ℕ) → slot / 64 < length marks → marked (marking marks slot) slot ≡ true
 unfolding marked marking
 mark-made marks slot h = rw (getD-set-same marks (slot / 64) (one-more marks slot) 0 h) (eq-eqb _ _ (holds-self (getD marks (slot / 64) 0) (2 ^ (slot % 64))))
 
 -- a mark stays when another is made
-mark-stays : (marks : List ℕ) (slot j : ℕ) → slot / 64 < length marks → marked marks j ≡ true → marked (marking marks slot) j ≡ true
+pub mark-stays : (marks : List ℕ) (slot j : ℕ) → slot / 64 < length marks → marked marks j ≡ true → marked (marking marks slot) j ≡ true
 unfolding marked marking
 mark-stays marks slot j h m = go (eqb (j / 64) (slot / 64)) refl
   where
@@ -55,7 +59,7 @@ mark-stays marks slot j h m = go (eqb (j / 64) (slot / 64)) refl
 mark : {ts : List (List ℕ)} {marks : List ℕ} (x : List ℕ) → Marks ts marks → Marks (x ∷ ts) (marking marks (slotOf x))
 mark {ts} {marks} x m =
     record {
-      size = unfold marking in length-set marks (slotOf x / 64) (one-more marks (slotOf x)) ∙ m .size;
+      size = marking-size marks (slotOf x) ∙ m .size;
       shows = λ t h. go t (sameText t x) refl (sym (among-cons x ts t) ∙ h);
     }
   where

@@ -1,7 +1,7 @@
 -- Laws of the names of elements: one after the other, and whether a text is one of them.
 -- Assumes nothing.
-use Prim.Native.Nat.{ℕ, zero, suc, _+_, _-_, _≤_, _<_}
-use mathlib.Core.Bool.{true, false}
+use Prim.Native.Nat.{ℕ, zero, suc, _+_, _-_, _/_, _≤_, _<_}
+use mathlib.Core.Bool.{Bool, true, false, _||_, or-true, or-false}
 use mathlib.Core.Path.{_≡_, refl, sym, _∙_, ap}
 use mathlib.Core.List.{List, [], _∷_}
 use native.Mathlib.Numerals.{sub-one}
@@ -13,67 +13,11 @@ use Rattle.wire.specs.Outcome.{ok, refused}
 use Rattle.bson_elements.specs.Element.{elementSize}
 use Rattle.opmsg.specs.Names.{Name, sameText, among, distinct, elementNames, texts}
 use Rattle.opmsg.specs.Inner.{Filled, none, more}
+pub use Rattle.opmsg_name_tables.proofs.Names.{names-turns, names-of, all-names}
+use Rattle.opmsg_name_tables.proofs.Names.{filled-next, nameAt, names-end, names-next}
 use Rattle.opmsg_body_names.specs.Inner.{nameText, namesOf, slotOf, marked, marking, Marks}
-use Rattle.opmsg_body_names.proofs.Texts.{among-cons, take-cons, drop-next, texts-take}
-use Rattle.opmsg_body_names.proofs.Distinct.{marks-none, Met, met-none, met-unmarked, met-next, met-again, met-all, met-marks}
-
--- bytes that elements fill, from the second element on
-filled-next : {xs : List ℕ} → Filled xs → 0 < length xs → (0 < elementSize xs) × (elementSize xs ≤ length xs) × Filled (drop (elementSize xs) xs)
-filled-next none h = absurd (omega arith)
-filled-next (more a b f) h = (a, b, f)
-
-names-end : (turns at : ℕ) → elementNames turns at [] ≡ []
-unfolding elementNames
-names-end zero at = refl
-names-end (suc turns) at = refl
-
--- the name of the first element, and those of the rest
-abbrev nameAt : ℕ → List ℕ → Name
-nameAt at xs = record { place = at + 1; text = nameText xs }
-
-names-next : (turns at : ℕ) (xs : List ℕ) → 0 < turns → 0 < length xs
-    → elementNames turns at xs ≡ nameAt at xs ∷ elementNames (turns - 1) (at + elementSize xs) (drop (elementSize xs) xs)
-unfolding elementNames nameText
-names-next zero at xs t l = absurd (omega arith)
-names-next (suc turns) at xs t l = rw (sub-one (suc turns), elementNames, ne-eqb (length xs) 0 (λ e. omega arith))
-
--- more turns than bytes change nothing
-pub names-turns : (m n at : ℕ) (xs : List ℕ) → Filled xs → length xs ≤ m → length xs ≤ n → elementNames m at xs ≡ elementNames n at xs
-names-turns zero n at [] f k l = names-end zero at ∙ sym (names-end n at)
-names-turns zero n at (x ∷ xs) f k l = absurd (omega arith)
-names-turns (suc m) n at [] f k l = names-end (suc m) at ∙ sym (names-end n at)
-names-turns (suc m) n at (x ∷ xs) f k l =
-    let p = filled-next f (omega arith) in
-    let short : length (drop (elementSize (x ∷ xs)) (x ∷ xs)) ≤ length xs = rw length-drop (omega arith) in
-    names-next (suc m) at (x ∷ xs) (omega arith) (omega arith)
-    ∙ rw (sub-one (suc m)) (ap (λ (ns : List Name). nameAt at (x ∷ xs) ∷ ns) (names-turns m (n - 1) _ _ (p .2) (omega arith) (omega arith)))
-    ∙ sym (names-next n at (x ∷ xs) (omega arith) (omega arith))
-
--- the texts do not depend on the places
-names-places : (turns a b : ℕ) (xs : List ℕ) → texts (elementNames turns a xs) ≡ texts (elementNames turns b xs)
-unfolding texts
-names-places zero a b xs = unfold elementNames in refl
-names-places (suc turns) a b [] = unfold elementNames in refl
-names-places (suc turns) a b (x ∷ xs) =
-    rw (names-next (suc turns) a (x ∷ xs) (omega arith) (omega arith), names-next (suc turns) b (x ∷ xs) (omega arith) (omega arith), sub-one (suc turns))
-    (ap (λ (ts : List (List ℕ)). nameText (x ∷ xs) ∷ ts) (names-places turns (a + elementSize (x ∷ xs)) (b + elementSize (x ∷ xs)) (drop (elementSize (x ∷ xs)) (x ∷ xs))))
-
-pub names-of : (turns at : ℕ) (xs : List ℕ) → Filled xs → length xs ≤ turns → texts (elementNames turns at xs) ≡ namesOf xs
-unfolding namesOf
-names-of turns at xs f l = names-places turns at 0 xs ∙ ap texts (names-turns turns (length xs) 0 xs f l (omega arith))
-
--- there are no more names than bytes
-names-few : (turns at : ℕ) (xs : List ℕ) → Filled xs → length (elementNames turns at xs) ≤ length xs
-names-few zero at xs f = unfold elementNames in omega arith
-names-few (suc turns) at [] f = unfold elementNames in omega arith
-names-few (suc turns) at (x ∷ xs) f =
-    let p = filled-next f (omega arith) in
-    let rest = names-few turns (at + elementSize (x ∷ xs)) (drop (elementSize (x ∷ xs)) (x ∷ xs)) (p .2) in
-    rw (names-next (suc turns) at (x ∷ xs) (omega arith) (omega arith), sub-one (suc turns)) (omega (arith, rest, length-drop (elementSize (x ∷ xs)) (x ∷ xs)))
-
-pub all-names : (xs : List ℕ) → Filled xs → take (length xs) (namesOf xs) ≡ namesOf xs
-unfolding namesOf texts
-all-names xs f = take-all (length xs) _ (rw length-map (names-few (length xs) 0 xs f))
+use Rattle.opmsg_body_names.proofs.Texts.{same-text, among-cons, take-cons, drop-next, texts-take}
+use Rattle.opmsg_body_names.proofs.Distinct.{slot-small, mark-made, mark-stays, marking-size, marks-none, Met, met-none, met-unmarked, met-next, met-again, met-all, met-marks}
 
 -- ---- in code: an element starts at place i of xs, and so many turns are left
 
@@ -205,3 +149,51 @@ module _ (at : ℕ) (xs : List ℕ) where
 
       pub listed-marks : Marks (namesOf xs) marks
       listed-marks = rw (names-of (length xs) at xs (l .whole) (omega arith)) at (met-marks 23 [] (elementNames (length xs) at xs) k (l .met) done)
+
+-- ---- marks are made: each of the names has one, or is among those from place i on
+
+pub record Marking (xs : List ℕ) (i : ℕ) (marks : List ℕ) : Type 0 where
+  pub turns : ℕ
+  pub reached : Reached xs i turns
+  pub size : length marks ≡ 32
+  pub shows : (t : List ℕ) → among (namesOf xs) t ≡ true → (marked marks (slotOf t) || among (texts (elementNames turns i (drop i xs))) t) ≡ true
+
+pub marking-none : (xs marks : List ℕ) → Filled xs → length marks ≡ 32 → Marking xs 0 marks
+unfolding namesOf
+marking-none xs marks f h = record { turns = length xs; reached = reached-none xs f; size = h; shows = λ t e. rw e (or-true (marked marks (slotOf t))) }
+
+module _ (xs : List ℕ) (i : ℕ) (marks : List ℕ) (m : Marking xs i marks) where
+  pub marking-next : i < length xs → (size : ℕ) → size ≡ elementSize (drop i xs) → Marking xs (i + size) (marking marks (slotOf (nameText (drop i xs))))
+  marking-next inside size e = record {
+    turns = m .turns - 1;
+    reached = reached-next xs i (m .turns) (m .reached) inside size e .1;
+    size = marking-size marks _ ∙ m .size;
+    shows = λ t h. go t (marked marks (slotOf t)) refl (sameText t name) refl (rw (names, among-cons) at (m .shows t h));
+  }
+    where
+      name : List ℕ
+      name = nameText (drop i xs)
+
+      rest : List (List ℕ)
+      rest = texts (elementNames (m .turns - 1) (i + size) (drop (i + size) xs))
+
+      names : texts (elementNames (m .turns) i (drop i xs)) ≡ nameText (drop i xs) ∷ texts (elementNames (m .turns - 1) (i + size) (drop (i + size) xs))
+      names = rw (reached-names xs i (m .turns) (m .reached) inside i size e) (unfold texts in refl)
+
+      slot : slotOf (nameText (drop i xs)) / 64 < length marks
+      slot = omega (arith, m .size, slot-small (nameText (drop i xs)))
+
+      go : (t : List ℕ) (a : Bool) → marked marks (slotOf t) ≡ a → (b : Bool) → sameText t (nameText (drop i xs)) ≡ b
+          → (marked marks (slotOf t) || (sameText t (nameText (drop i xs)) || among (texts (elementNames (m .turns - 1) (i + size) (drop (i + size) xs))) t)) ≡ true
+          → (marked (marking marks (slotOf (nameText (drop i xs)))) (slotOf t) || among (texts (elementNames (m .turns - 1) (i + size) (drop (i + size) xs))) t) ≡ true
+      go t true p b q h = rw (mark-stays marks (slotOf (nameText (drop i xs))) (slotOf t) slot p)
+      go t false p true q h = rw (same-text t (nameText (drop i xs)) q, mark-made marks (slotOf (nameText (drop i xs))) slot)
+      go t false p false q h =
+          let r : among (texts (elementNames (m .turns - 1) (i + size) (drop (i + size) xs))) t ≡ true = rw (p, q) at h in
+          rw r (or-true (marked (marking marks (slotOf (nameText (drop i xs)))) (slotOf t)))
+
+  pub marking-all : length xs ≤ i → Marks (namesOf xs) marks
+  marking-all h = record { size = m .size; shows = λ t e. rw (none-left t, or-false) at (m .shows t e) }
+    where
+      none-left : (t : List ℕ) → among (texts (elementNames (m .turns) i (drop i xs))) t ≡ false
+      none-left t = rw (reached-end xs i (m .turns) (m .reached) i h) (unfold texts among in refl)

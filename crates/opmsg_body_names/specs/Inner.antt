@@ -4,19 +4,12 @@ use Prim.Native.Nat.{ℕ, _+_, _-_, _*_, _/_, _%_, _^_}
 use mathlib.Core.List.{List}
 use mathlib.Core.Path.{_≡_}
 use mathlib.Core.Bool.{Bool, true}
-use lib.ListN.{take, drop, getD, set}
+use lib.ListN.{drop, getD, set}
 use lib.Bits.{bitAnd, bitOr}
 use lib.Dec.{eqb}
-use Rattle.wire.specs.Bytes.{word, untilZero}
-use Rattle.opmsg.specs.Names.{among, elementNames, texts}
-
--- the name of the element at the start of xs
-unfoldable pub nameText : List ℕ → List ℕ
-nameText xs = take (untilZero (drop 1 xs)) (drop 1 xs)
-
--- the names of the elements of xs
-unfoldable pub namesOf : List ℕ → List (List ℕ)
-namesOf xs = texts (elementNames (lib.ListN.length xs) 0 xs)
+use Rattle.wire.specs.Bytes.{word}
+use Rattle.opmsg.specs.Names.{among}
+unfoldable pub use Rattle.opmsg_name_tables.specs.Inner.{nameText, namesOf}
 
 -- where the mark of a text stands: by its first bytes and its last ones
 abbrev pub spread : ℕ → ℕ → ℕ

@@ -2,16 +2,24 @@
 use bson_skip::element_size;
 use opmsg::Verdict;
 use opmsg::refused;
-use wire::until_zero;
+use opmsg_name_tables::name;
+use opmsg_name_tables::names_differ;
 use wire::word;
 ghost use mathlib.Core.List.{[]};
+ghost use mathlib.Core.Bool.{true};
 ghost use mathlib.Core.Path.{_≡_};
 ghost use Prim.Native.Nat.{_+_, _%_, _^_, _<_};
 ghost use lib.ListN.{length, take};
 ghost use Rattle.opmsg.specs.Names.{sameText, among, distinct, elementNames};
 ghost use Rattle.opmsg.specs.declared.Verdict.the-variants.{Accepted};
 ghost use Rattle.opmsg.specs.Inner.{judged, Filled};
-ghost use Rattle.opmsg_body_names.specs.Inner.{nameText, namesOf, spread, slotOf, marked, marking, Marks};
+ghost use Rattle.opmsg_body_names.specs.Inner.{namesOf, spread, slotOf, marked, marking, Marks};
+
+// How often marks are met in vain before tables are made.
+const VAIN: usize = 3;
+
+// Bodies of more bytes get tables at once.
+const LONG: usize = 0x1_0000;
 
 // Two texts are the same.
 pub fn same(a: &[u8], b: &[u8]) -> bool
@@ -28,16 +36,6 @@ pub fn same(a: &[u8], b: &[u8]) -> bool
         i += 1;
     }
     true
-}
-
-// The name of the element at the start of xs.
-fn name(xs: &[u8]) -> &[u8]
-    requires { ⌜ 0 < length (now xs) ⌝ }
-    ensures { λ r. ⌜ now r ≡ nameText (now (xs .entry)) ⌝ }
-{
-    let rest = &xs[1..];
-    let n = until_zero(rest);
-    &rest[..n]
 }
 
 // A slot for a text that begins and ends with two words.
@@ -101,23 +99,92 @@ pub fn named(xs: &[u8], k: usize, text: &[u8]) -> bool
     false
 }
 
-// Check 23 of a body's elements xs, the first at a place. Their names get marks, which keep most from being compared.
-pub fn body_names(xs: &[u8], at: usize, marks: &mut [u64; 32]) -> Verdict
+// Makes the marks of all names of the elements xs, and tells how many there are.
+fn mark_all(xs: &[u8], marks: &mut [u64; 32]) -> usize
+    requires { ⌜ Filled (now xs) × (length (now marks) ≡ 32) ⌝ }
+    ensures { λ _. ⌜ Marks (namesOf (now (xs .entry))) (now (marks .exit)) ⌝ }
+{
+    let mut number: usize = 0;
+    let mut i: usize = 0;
+    while i < xs.len() {
+        let rest = &xs[i..];
+        mark(marks, name(rest));
+        number += 1;
+        i += element_size(rest);
+    }
+    number
+}
+
+// Check 23 by tables.
+fn by_tables(xs: &[u8], at: usize, marks: &mut [u64; 32]) -> Verdict
+    requires { ⌜ Filled (now xs) × (at + length (now xs) < 2 ^ 64) × (length (now marks) ≡ 32) × (length (now xs) < 2 ^ 32) ⌝ }
+    ensures is { λ r. ⌜ judged r ≡ distinct 23 [] (elementNames (length (now (xs .entry))) at (now (xs .entry))) ⌝ }
+    ensures marked { λ r. ⌜ (r ≡ Accepted → Marks (namesOf (now (xs .entry))) (now (marks .exit))) ⌝ }
+{
+    let number = mark_all(xs, marks);
+    names_differ(xs, at, number)
+}
+
+// A number is past a bound, and tables, whose places are 32-bit numbers, serve so many bytes.
+fn past(n: usize, bound: usize, size: usize) -> bool
+    ensures { λ r. ⌜ (r ≡ true → size < 2 ^ 32) ⌝ }
+{
+    if size < 0x1_0000_0000 {
+        return bound < n;
+    }
+    false
+}
+
+// One more, up to a bound.
+fn one_more(n: usize, bound: usize) -> usize {
+    if n < bound { n + 1 } else { n }
+}
+
+// Check 23 of a body's elements xs, the first at a place, where marks are met. A name whose mark is met is compared with those
+// before it; where that happens too often in vain, tables decide.
+fn compared(xs: &[u8], at: usize, marks: &mut [u64; 32]) -> Verdict
     requires { ⌜ Filled (now xs) × (at + length (now xs) < 2 ^ 64) × (length (now marks) ≡ 32) ⌝ }
     ensures is { λ r. ⌜ judged r ≡ distinct 23 [] (elementNames (length (now (xs .entry))) at (now (xs .entry))) ⌝ }
     ensures marked { λ r. ⌜ (r ≡ Accepted → Marks (namesOf (now (xs .entry))) (now (marks .exit))) ⌝ }
 {
+    *marks = [0; 32];
+    let mut vain: usize = 0;
     let mut k: usize = 0;
     let mut i: usize = 0;
     while i < xs.len() {
         let rest = &xs[i..];
         let text = name(rest);
         if mark(marks, text) {
+            if past(vain, VAIN, xs.len()) {
+                return by_tables(xs, at, marks);
+            }
             if named(xs, k, text) {
                 return refused(23, at + i + 1);
             }
+            vain = one_more(vain, VAIN + 1);
         }
         k += 1;
+        i += element_size(rest);
+    }
+    Verdict::Accepted
+}
+
+// Check 23 of a body's elements xs, the first at a place. Their names get marks: where none is met, the names differ. In a long
+// body some would be met in vain.
+pub fn body_names(xs: &[u8], at: usize, marks: &mut [u64; 32]) -> Verdict
+    requires { ⌜ Filled (now xs) × (at + length (now xs) < 2 ^ 64) × (length (now marks) ≡ 32) ⌝ }
+    ensures is { λ r. ⌜ judged r ≡ distinct 23 [] (elementNames (length (now (xs .entry))) at (now (xs .entry))) ⌝ }
+    ensures marked { λ r. ⌜ (r ≡ Accepted → Marks (namesOf (now (xs .entry))) (now (marks .exit))) ⌝ }
+{
+    if LONG < xs.len() {
+        return compared(xs, at, marks);
+    }
+    let mut i: usize = 0;
+    while i < xs.len() {
+        let rest = &xs[i..];
+        if mark(marks, name(rest)) {
+            return compared(xs, at, marks);
+        }
         i += element_size(rest);
     }
     Verdict::Accepted

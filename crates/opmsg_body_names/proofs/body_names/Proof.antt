@@ -1,89 +1,74 @@
--- `opmsg_body_names::body_names` meets its contract. The loop's invariant: the k elements before place i have names that differ, and their marks are made.
+-- `opmsg_body_names::body_names` meets its contract. The loop's invariant: the elements before place i have names that differ, and their marks are made.
 -- The measure is what is left of the bytes. Assumes nothing.
-use Prim.Native.Nat.{_+_, _-_, _<_}
-use mathlib.Core.Bool.{true, false}
-use mathlib.Core.Logic.{⊎-elim}
+use Prim.Native.Nat.{ℕ, _+_, _-_, _<_}
 use mathlib.Core.Path.{_≡_, sym, _∙_}
 use native.Mathlib.Omega.{arith}
-use lib.ListN.{length, take, drop, length-take, length-drop}
+use lib.ListN.{length, drop, length-take, length-drop}
 use borrow.Author.Needs.{needs}
 use Rattle.bson_elements.specs.Element.{elementSize}
 use Rattle.wire.proofs.Parts.{rest-part}
-use Rattle.opmsg.specs.Names.{among}
-use Rattle.opmsg_body_names.specs.Inner.{nameText, namesOf}
-use Rattle.opmsg_body_names.proofs.Distinct.{not-accepted}
-use Rattle.opmsg_body_names.proofs.Elements.{Reached, reached-size, reached-next, NamesPassed, listed-none, listed-unmarked, listed-again, listed-next, listed-all, listed-marks}
+use Rattle.opmsg_body_names.specs.Inner.{nameText}
+use Rattle.opmsg_body_names.proofs.Distinct.{marking-size}
+use Rattle.opmsg_body_names.proofs.Elements.{Reached, reached-size, reached-next, NamesPassed, listed-none, listed-unmarked, listed-next, listed-all, listed-marks}
 use Rattle.opmsg_body_names.proofs.body_names.Statement.{statement}
 use Rattle.opmsg_body_names.proofs.body_names.Tie as tie
 
 abbrev Inv-loop : tie.InvT-loop
-Inv-loop xs at marks₀ k₀ i₀ marks k i = NamesPassed at xs i k marks
+Inv-loop xs at marks₀ i₀ marks i = (k : ℕ) × NamesPassed at xs i k marks
 
 abbrev μ-loop : tie.MeasureT-loop
-μ-loop xs at marks₀ k₀ i₀ marks k i = length xs - i
+μ-loop xs at marks₀ i₀ marks i = length xs - i
 
-name-is : (c : tie.After-mark Inv-loop μ-loop) →
-    let l = c .before .before .before .before .before in
-    c .before .before .name .result .now ≡ nameText (drop (l .loop .i) (l .before .before .args .xs .now))
-name-is c =
-    let l = c .before .before .before .before .before in
-    rw (rest-part (l .loop .i) (l .before .before .args .xs .now)) at (c .before .before .name .ensures)
+-- where the call began
+abbrev S : tie.At-loop Inv-loop μ-loop → tie.Start Inv-loop μ-loop
+S l = l .before .before .before
 
--- behind the branch the name is new
-fresh : (c : tie.Joined1 Inv-loop μ-loop) →
-    let l = c .before .before .before .before .before .before in
-    among (take (l .loop .k) (namesOf (l .before .before .args .xs .now))) (nameText (drop (l .loop .i) (l .before .before .args .xs .now))) ≡ false
-fresh c =
-    let m = c .before in
-    let l = m .before .before .before .before .before in
-    ⊎-elim
-    (λ w. rw (name-is m) at (sym (w .1 .ensures) ∙ w .2 .left))
-    (λ w. listed-unmarked _ _ (l .loop .i) _ (l .loop .inv) _ (rw (name-is m) at (sym (m .mark .ensures .0) ∙ w .left)))
-    (c .if1 .came)
+-- the turn in which a mark was looked at
+abbrev L : tie.After-mark Inv-loop μ-loop → tie.At-loop Inv-loop μ-loop
+L c = c .before .before .before .before .before
+
+name-is : (c : tie.After-mark Inv-loop μ-loop) → c .before .name .result .now ≡ nameText (drop (L c .loop .i) (S (L c) .args .xs .now))
+name-is c = rw (rest-part (L c .loop .i) (S (L c) .args .xs .now)) at (c .before .name .ensures)
 
 size-is : (c : tie.After-element-size Inv-loop μ-loop) →
-    let l = c .before .before .before .before .before .before .before in
-    c .element-size .result ≡ elementSize (drop (l .loop .i) (l .before .before .args .xs .now))
+    let l = L (c .before .before) in
+    c .element-size .result ≡ elementSize (drop (l .loop .i) (S l .args .xs .now))
 size-is c =
     let t = c .before .before .before .before .before .before in
     let l = t .before in
-    let s = reached-size _ _ _ (l .loop .inv .reached) (t .loop-test .taken) in
-    (rw (rest-part (l .loop .i) (l .before .before .args .xs .now)) at (c .element-size .ensures)) (s .0) (s .1)
+    let s = reached-size _ _ _ (l .loop .inv .1 .reached) (t .loop-test .taken) in
+    (rw (rest-part (l .loop .i) (S l .args .xs .now)) at (c .element-size .ensures)) (s .0) (s .1)
 
 next : (c : tie.After-element-size Inv-loop μ-loop) →
-    let l = c .before .before .before .before .before .before .before in
-    (0 < c .element-size .result) × Reached (l .before .before .args .xs .now) (l .loop .i + c .element-size .result) (l .loop .inv .turns - 1)
+    let l = L (c .before .before) in
+    (0 < c .element-size .result) × Reached (S l .args .xs .now) (l .loop .i + c .element-size .result) (l .loop .inv .1 .turns - 1)
 next c =
     let t = c .before .before .before .before .before .before in
-    reached-next _ _ _ (t .before .loop .inv .reached) (t .loop-test .taken) _ (size-is c)
+    reached-next _ _ _ (t .before .loop .inv .1 .reached) (t .loop-test .taken) _ (size-is c)
+
+compared-requires : tie.Need-compared-requires Inv-loop μ-loop
+compared-requires c κs = c .before .before .before .pre
+
+returns : tie.Need-returns Inv-loop μ-loop
+returns c = c .compared .ensures
 
 loop-holds : tie.Need-loop-holds Inv-loop μ-loop
-loop-holds c = listed-none _ _ (c .before .pre .0) _ (c .before .pre .2)
+loop-holds c = let p = c .before .before .pre in (0, listed-none _ _ (p .0) _ (p .2))
 
 name-requires : tie.Need-name-requires Inv-loop μ-loop
 name-requires c κs = simp (length-take, length-drop) (omega arith)
 
 mark-requires : tie.Need-mark-requires Inv-loop μ-loop
-mark-requires c κs = c .before .before .before .before .loop .inv .met .marked .size
+mark-requires c κs = c .before .before .before .before .loop .inv .1 .met .marked .size
 
-named-requires : tie.Need-named-requires Inv-loop μ-loop
-named-requires c κs = c .before .before .before .before .before .before .before .before .pre .0
+compared-requires-2 : tie.Need-compared-requires-2 Inv-loop μ-loop
+compared-requires-2 c κs =
+    let m = c .before .before in
+    let p = S (L m) .pre in
+    (p .0, p .1, rw (m .mark .ensures .1, marking-size) (L m .loop .inv .1 .met .marked .size))
 
-returns : tie.Need-returns Inv-loop μ-loop
-returns c =
-    let n = c .before .before in
-    let m = n .before .before in
-    let t = m .before .before .before .before in
-    let l = t .before in
-    let a = l .before .before in
-    let e : among (take (l .loop .k) (namesOf (a .args .xs .now))) (nameText (drop (l .loop .i) (a .args .xs .now))) ≡ true =
-    rw (name-is m) at (sym (n .named .ensures) ∙ c .before .if2 .taken) in (
-      rw (c .refused .ensures) (sym (listed-again _ _ (l .loop .i) _ (l .loop .inv) (t .loop-test .taken) e)),
-      λ h. not-accepted (c .refused .ensures) h,
-    )
-
-add-k : tie.Need-add-k Inv-loop μ-loop
-add-k c = omega arith
+returns-2 : tie.Need-returns-2 Inv-loop μ-loop
+returns-2 c = c .compared2 .ensures
 
 add-i : tie.Need-add-i Inv-loop μ-loop
 add-i c = omega (arith, next c .1 .within)
@@ -95,12 +80,14 @@ loop-again : tie.Need-loop-again Inv-loop μ-loop
 loop-again c =
     let m = c .before .before in
     let t = m .before .before .before .before in
-    rw (m .mark .ensures .1, name-is m) (listed-next _ _ _ _ (t .before .loop .inv) (t .loop-test .taken) _ (size-is c) (fresh (c .before)))
+    let l = t .before in
+    let fresh = listed-unmarked _ _ (l .loop .i) _ (l .loop .inv .1) _ (rw (name-is m) at (sym (m .mark .ensures .0) ∙ c .before .if2 .left)) in
+    (l .loop .inv .0 + 1, rw (m .mark .ensures .1, name-is m) (listed-next _ _ _ _ (l .loop .inv .1) (t .loop-test .taken) _ (size-is c) fresh))
 
-returns-2 : tie.Need-returns-2 Inv-loop μ-loop
-returns-2 c = (
-  sym (listed-all _ _ _ _ (c .before .loop .inv) (c .loop-test .left)),
-  λ h. listed-marks _ _ _ _ (c .before .loop .inv) (c .loop-test .left),
+returns-3 : tie.Need-returns-3 Inv-loop μ-loop
+returns-3 c = (
+  sym (listed-all _ _ _ _ (c .before .loop .inv .1) (c .loop-test .left)),
+  λ h. listed-marks _ _ _ _ (c .before .loop .inv .1) (c .loop-test .left),
 )
 
 pub body-names-spec : {M : Type 1} → statement M
@@ -109,20 +96,18 @@ body-names-spec =
     (tie.spec
     Inv-loop
     μ-loop
+    compared-requires
+    returns
     loop-holds
     (λ c. search needs)
     (λ c. search needs)
     (λ c. search needs)
     name-requires
     mark-requires
-    named-requires
-    (λ c. search needs)
-    (λ c. search needs)
-    (λ c κs. search needs)
-    returns
-    add-k
+    compared-requires-2
+    returns-2
     (λ c κs. search needs)
     add-i
     loop-less
     loop-again
-    returns-2)
+    returns-3)

@@ -1,13 +1,13 @@
--- `opmsg_body_names::name` meets its contract.
+-- `opmsg_name_tables::name` meets its contract.
 -- Assumes nothing.
 use mathlib.Core.Path.{sym}
 use lib.Seq.{length-take-le}
 use borrow.Author.Needs.{needs}
 use Rattle.wire.proofs.Bytes.{until-le}
 use Rattle.wire.proofs.Parts.{rest-part}
-use Rattle.opmsg_body_names.specs.Inner.{nameText}
-use Rattle.opmsg_body_names.proofs.name.Statement.{statement}
-use Rattle.opmsg_body_names.proofs.name.Tie as tie
+use Rattle.opmsg_name_tables.specs.Inner.{nameText}
+use Rattle.opmsg_name_tables.proofs.name.Statement.{statement}
+use Rattle.opmsg_name_tables.proofs.name.Tie as tie
 
 slice-aggregate-result : tie.Need-slice-aggregate-result
 slice-aggregate-result c = sym (length-take-le _ _ (rw (c .before .until-zero .ensures) (until-le _)))
