@@ -20,23 +20,18 @@ mod bson;
 mod common;
 mod mix;
 mod plain;
+mod timing;
 
 use mix::Item;
 use relay::{ffi, Edition, MAX_LENGTH, VIEW_NUMBERS};
 use std::hint::black_box;
-use std::time::{Duration, Instant};
+use timing::{medians, SAMPLES};
 
 const HOUSE: Edition = Edition::HOUSE;
 const PLAIN_HOUSE: plain::Edition = plain::Edition {
     bits: HOUSE.bits,
     sequences: HOUSE.sequences,
 };
-
-/// How many samples each median is taken over.
-const SAMPLES: usize = 101;
-
-/// How long one sample takes at least.
-const SAMPLE_TIME: Duration = Duration::from_micros(400);
 
 fn main() {
     let items = mix::mix();
@@ -222,41 +217,4 @@ fn print_row(name: &str, length: usize, call: &str, [library, safe, plain]: [f64
 
 fn outputs() -> [Vec<u8>; 3] {
     [(); 3].map(|()| vec![0; MAX_LENGTH])
-}
-
-// ------------------------------------------------------------------ timing
-
-/// The median time of one call of each contender, in nanoseconds.
-fn medians<const N: usize>(mut contenders: [&mut dyn FnMut(); N]) -> [f64; N] {
-    let calls: Vec<u32> = contenders.iter_mut().map(|c| calls_for_sample(c)).collect();
-    let mut samples = vec![Vec::with_capacity(SAMPLES); N];
-    for _ in 0..SAMPLES {
-        for (index, contender) in contenders.iter_mut().enumerate() {
-            let time = time_of(contender, calls[index]);
-            samples[index].push(time.as_nanos() as f64 / f64::from(calls[index]));
-        }
-    }
-    std::array::from_fn(|index| median(&mut samples[index]))
-}
-
-/// How many calls fill a sample.
-fn calls_for_sample(contender: &mut dyn FnMut()) -> u32 {
-    let mut calls = 1;
-    while time_of(contender, calls) < SAMPLE_TIME {
-        calls *= 2;
-    }
-    calls
-}
-
-fn time_of(contender: &mut dyn FnMut(), calls: u32) -> Duration {
-    let start = Instant::now();
-    for _ in 0..calls {
-        contender();
-    }
-    start.elapsed()
-}
-
-fn median(samples: &mut [f64]) -> f64 {
-    samples.sort_by(f64::total_cmp);
-    samples[samples.len() / 2]
 }

@@ -1,6 +1,12 @@
 //! A plain safe Rust reader with the same checks as the library, written as
 //! one would write it for speed without unsafe code: the measure to hold the
 //! library against. `tests/plain.rs` holds it against the independent reader.
+//! Each name is compared with all before it, which is the fastest for the few
+//! names that most messages have; `read_with` takes another way to check them.
+
+#![allow(dead_code)]
+
+use std::collections::HashSet;
 
 pub const MAX_LENGTH: usize = 49_152;
 pub const MAX_SEQUENCES: usize = 16;
@@ -115,12 +121,47 @@ fn zero_from(bytes: &[u8], at: usize, limit: usize) -> Option<usize> {
 }
 
 pub fn read(edition: Edition, buffer: &[u8]) -> Result<View, Refused> {
-    let (view, _) = read_parts(edition, buffer)?;
+    let (view, _) = read_parts(edition, buffer, Reader::names_differ)?;
     Ok(view)
 }
 
+/// Reads a message with this way to find the place of the first name that is
+/// an earlier one's: `by_set` or `by_order`.
+pub fn read_with(
+    edition: Edition,
+    buffer: &[u8],
+    first_again: impl Fn(&[Name]) -> Option<usize>,
+) -> Result<View, Refused> {
+    let names_differ = |reader: &Reader| match first_again(&reader.names) {
+        Some(place) => Err((23, place)),
+        None => Ok(()),
+    };
+    let (view, _) = read_parts(edition, buffer, names_differ)?;
+    Ok(view)
+}
+
+/// Looks for the name in a hash set of those before it.
+pub fn by_set(names: &[Name]) -> Option<usize> {
+    let mut seen = HashSet::with_capacity(names.len());
+    let again = names.iter().find(|name| !seen.insert(name.text))?;
+    Some(again.start)
+}
+
+/// Sorts the names by their texts and then their places: equal ones are
+/// neighbours then.
+pub fn by_order(names: &[Name]) -> Option<usize> {
+    let mut sorted: Vec<(&[u8], usize)> = names.iter().map(|n| (n.text, n.start)).collect();
+    sorted.sort_unstable();
+    let again = sorted.windows(2).filter(|two| two[0].0 == two[1].0);
+    again.map(|two| two[1].1).min()
+}
+
 /// Reads a message; the reader that comes with the view holds its names.
-fn read_parts(edition: Edition, buffer: &[u8]) -> Result<(View, Reader<'_>), Refused> {
+fn read_parts<'a>(
+    edition: Edition,
+    buffer: &'a [u8],
+    names_differ: impl Fn(&Reader<'a>) -> Result<(), Refused>,
+) -> Result<(View, Reader<'a>), Refused> {
     if buffer.len() < 16 {
         return Err((1, 0));
     }
@@ -164,7 +205,7 @@ fn read_parts(edition: Edition, buffer: &[u8]) -> Result<(View, Reader<'_>), Ref
     let mut reader = Reader::new(&message[..end]);
     reader.sections(edition, &mut view)?;
     view.elements = reader.elements;
-    reader.names_differ()?;
+    names_differ(&reader)?;
     reader.identifiers_differ(&view)?;
     Ok((view, reader))
 }
@@ -178,7 +219,7 @@ struct Reader<'a> {
     names: Vec<Name<'a>>,
 }
 
-struct Name<'a> {
+pub struct Name<'a> {
     text: &'a [u8],
     start: usize,
 }
@@ -481,7 +522,7 @@ pub fn append(
     documents: &[u8],
     output: &mut [u8],
 ) -> Result<View, Refused> {
-    let (mut view, old) = read_parts(edition, message)?;
+    let (mut view, old) = read_parts(edition, message, Reader::names_differ)?;
     let end = view.length - if view.flags & 1 != 0 { 4 } else { 0 };
     if !edition.sequences {
         return Err((10, end));

@@ -68,12 +68,17 @@ fn the_plain_reader_agrees_with_the_independent_one() {
         let room = random.between(0, 2) * message.len();
         let mut output = vec![0xAA; room];
 
-        let answer = plain::read(known, &message);
         let expected = reference::read(&edition, &message).map(|view| (view, Vec::new()));
-        assert!(
-            compare(answer, expected, &[]),
-            "seed {seed}, case {case}: read"
-        );
+        for answer in [
+            plain::read(known, &message),
+            plain::read_with(known, &message, plain::by_set),
+            plain::read_with(known, &message, plain::by_order),
+        ] {
+            assert!(
+                compare(answer, expected.clone(), &[]),
+                "seed {seed}, case {case}: read"
+            );
+        }
 
         let answer = plain::forward(known, &message, &mut output);
         let expected = reference::forward(&edition, &message, room);

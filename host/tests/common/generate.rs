@@ -61,7 +61,7 @@ fn any_name(random: &mut Random, style: Style, index: usize) -> Vec<u8> {
     }
 }
 
-fn any_element(random: &mut Random, style: Style, name: &[u8]) -> Vec<u8> {
+pub fn any_element(random: &mut Random, style: Style, name: &[u8]) -> Vec<u8> {
     let mut kind = random.pick(&TYPES);
     if style.depth <= 1 && matches!(kind, 0x03 | 0x04 | 0x0F) {
         kind = 0x10;

@@ -1,0 +1,155 @@
+//! Measures how the time to read a body grows with the number of its names,
+//! which must differ, all in one run:
+//!
+//! ```text
+//! cargo bench --bench growth
+//! ```
+//!
+//! Every figure is nanoseconds a name: the time of a read by the number of
+//! names. Each name stands before a null. `library` is the C function, with a
+//! view that is lent again and again; `set` and `order` are `bench/plain.rs`
+//! with a hash set and with the names sorted. Their samples are taken in turn.
+
+#[path = "../tests/common/mod.rs"]
+mod common;
+mod plain;
+mod timing;
+
+use common::names::{message_of, Family};
+use relay::{ffi, Edition, VIEW_NUMBERS};
+use std::hint::black_box;
+use std::time::Duration;
+use timing::{medians_over, time_of};
+
+const HOUSE: Edition = Edition::HOUSE;
+const PLAIN_HOUSE: plain::Edition = plain::Edition {
+    bits: HOUSE.bits,
+    sequences: HOUSE.sequences,
+};
+
+const COUNTS: [usize; 12] = [4, 8, 16, 32, 64, 128, 256, 512, 1024, 2048, 3400, 4000];
+
+/// How many samples each median is taken over.
+const SAMPLES: usize = 51;
+
+/// How many samples of the library, where a read takes it longer than this.
+const FEW_SAMPLES: usize = 5;
+const SLOW: Duration = Duration::from_millis(10);
+
+/// Nanoseconds a name: of the library, with a hash set, with sorted names.
+type Costs = [f64; 3];
+
+/// The costs of a family for each number of names.
+struct Growth {
+    family: Family,
+    rows: Vec<(usize, Costs)>,
+}
+
+fn main() {
+    println!("Nanoseconds a name, medians over {SAMPLES} samples. Where the library takes");
+    let slow = SLOW.as_millis();
+    println!("more than {slow} ms for a read, its medians are over {FEW_SAMPLES}.");
+    println!();
+    println!(
+        "{:<28}{:>5}{:>7}  {:>10}{:>8}{:>8}{:>13}{:>11}",
+        "family", "names", "bytes", "library", "set", "order", "library/set", "order/set"
+    );
+    let all = Family::ALL.map(measure);
+    print_growth(&all);
+    print_beside_usual(&all);
+}
+
+/// Measures a family; the last row has the most names that fit.
+fn measure(family: Family) -> Growth {
+    let most = family.most();
+    let fitting = COUNTS.into_iter().filter(|&count| count < most);
+    let rows = fitting
+        .chain([most])
+        .map(|count| {
+            let message = message_of(&family.names(count));
+            let costs = measure_read(&message, count);
+            print_row(family, count, message.len(), costs);
+            (count, costs)
+        })
+        .collect();
+    Growth { family, rows }
+}
+
+fn measure_read(message: &[u8], count: usize) -> Costs {
+    let mut view = [0; VIEW_NUMBERS];
+    let mut library = || {
+        let result = ffi::read(HOUSE.bits, 1, black_box(message), &mut view);
+        assert_eq!(result, 0);
+        black_box(&mut view);
+    };
+    let mut set = || {
+        let view = plain::read_with(PLAIN_HOUSE, black_box(message), plain::by_set);
+        assert_eq!(black_box(view).map(|view| view.elements), Ok(count));
+    };
+    let mut order = || {
+        let view = plain::read_with(PLAIN_HOUSE, black_box(message), plain::by_order);
+        assert_eq!(black_box(view).map(|view| view.elements), Ok(count));
+    };
+    let slow = time_of(&mut library, 1) > SLOW;
+    let samples = [if slow { FEW_SAMPLES } else { SAMPLES }, SAMPLES, SAMPLES];
+    medians_over(samples, [&mut library, &mut set, &mut order]).map(|time| time / count as f64)
+}
+
+fn print_row(family: Family, count: usize, bytes: usize, [library, set, order]: Costs) {
+    let words = family.words();
+    let (library_ratio, order_ratio) = (library / set, order / set);
+    println!(
+        "{words:<28}{count:>5}{bytes:>7}  {library:>10.1}{set:>8.1}{order:>8.1}\
+         {library_ratio:>13.2}{order_ratio:>11.2}"
+    );
+}
+
+impl Growth {
+    fn at(&self, count: usize) -> Costs {
+        let row = self.rows.iter().find(|row| row.0 == count);
+        row.expect("measured").1
+    }
+
+    /// The row of 3,400 names, or the last where fewer fit.
+    fn large(&self) -> (usize, Costs) {
+        let last = self.rows[self.rows.len() - 1].0;
+        let count = last.min(3_400);
+        (count, self.at(count))
+    }
+}
+
+/// What a name costs among many, by what it costs among 256.
+fn print_growth(all: &[Growth]) {
+    println!();
+    println!("A name among many, by a name among 256:");
+    println!(
+        "{:<28}{:>5}{:>9}{:>8}{:>8}",
+        "family", "names", "library", "set", "order"
+    );
+    for growth in all {
+        let (count, many) = growth.large();
+        let few = growth.at(256);
+        let [library, set, order] = [0, 1, 2].map(|index| many[index] / few[index]);
+        let words = growth.family.words();
+        println!("{words:<28}{count:>5}{library:>9.2}{set:>8.2}{order:>8.2}");
+    }
+}
+
+/// What a name of each family costs the library, by what a usual one costs.
+fn print_beside_usual(all: &[Growth]) {
+    println!();
+    println!("The library's cost of a name, by that of a usual one:");
+    println!(
+        "{:<28}{:>9}{:>9}{:>9}",
+        "family", "16 names", "32 names", "64 names"
+    );
+    let usual = &all[0];
+    for growth in &all[1..] {
+        let ratios = [16, 32, 64].map(|count| growth.at(count)[0] / usual.at(count)[0]);
+        let words = growth.family.words();
+        println!(
+            "{words:<28}{:>9.2}{:>9.2}{:>9.2}",
+            ratios[0], ratios[1], ratios[2]
+        );
+    }
+}

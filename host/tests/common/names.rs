@@ -1,0 +1,207 @@
+//! Families of names for the top of a body: usual ones, and those that make
+//! it hard to tell them apart. A reader can keep most names apart by a slot
+//! that it makes of some of their bytes: of the first and last four, for
+//! marks, or of the middle four too. Names of one slot are the dearest then.
+
+use super::bson::{document, element};
+use super::message::with_body;
+use super::random::Random;
+use super::reference::MAX_MESSAGE;
+use std::collections::HashSet;
+
+#[derive(Clone, Copy, Debug, PartialEq, Eq)]
+pub enum Family {
+    /// `field00001` and so on.
+    Usual,
+    /// Names of one slot of [`mark`], which differ elsewhere.
+    OneMark,
+    /// Names with the same first four, last four and middle four bytes, in
+    /// rising order.
+    OneSlot,
+    /// The same in falling order.
+    Falling,
+    /// Sixteen names in each slot of [`home`], and the last name is the
+    /// seventeenth of its slot; all are in falling order.
+    Sixteen,
+    /// Names that differ in the last two of 12 bytes.
+    Prefix,
+    /// Names that differ in the last two of 48 bytes.
+    LongPrefix,
+    /// Names that differ in the first two of 12 bytes.
+    Suffix,
+    /// Names that differ in the first two of 48 bytes.
+    LongSuffix,
+    /// One letter, one to many times: all lengths differ, and each name is
+    /// the start of the next.
+    Lengths,
+}
+
+impl Family {
+    pub const ALL: [Family; 10] = [
+        Family::Usual,
+        Family::OneMark,
+        Family::OneSlot,
+        Family::Falling,
+        Family::Sixteen,
+        Family::Prefix,
+        Family::LongPrefix,
+        Family::Suffix,
+        Family::LongSuffix,
+        Family::Lengths,
+    ];
+
+    pub fn words(self) -> &'static str {
+        match self {
+            Family::Usual => "usual",
+            Family::OneMark => "one slot of the marks",
+            Family::OneSlot => "one slot of both",
+            Family::Falling => "one slot of both, falling",
+            Family::Sixteen => "sixteen to a slot, falling",
+            Family::Prefix => "common prefix, 12 bytes",
+            Family::LongPrefix => "common prefix, 48 bytes",
+            Family::Suffix => "common suffix, 12 bytes",
+            Family::LongSuffix => "common suffix, 48 bytes",
+            Family::Lengths => "all lengths differ",
+        }
+    }
+
+    /// How many names with a null each fit into a message, of 4,000 at most.
+    pub fn most(self) -> usize {
+        let mut left = MAX_MESSAGE - 26;
+        for count in 0..4_000 {
+            let size = self.name_length(count) + 2;
+            if left < size {
+                return count;
+            }
+            left -= size;
+        }
+        4_000
+    }
+
+    fn name_length(self, index: usize) -> usize {
+        match self {
+            Family::Usual | Family::OneMark => 10,
+            Family::LongPrefix | Family::LongSuffix => 48,
+            Family::Lengths => index + 1,
+            _ => 12,
+        }
+    }
+
+    /// So many names, all different. Those of `Falling` and `Sixteen` are not
+    /// the first ones of more.
+    pub fn names(self, count: usize) -> Vec<Vec<u8>> {
+        assert!(count <= self.most());
+        match self {
+            Family::OneMark => of_one_mark(count),
+            Family::Falling => {
+                let mut names = Family::OneSlot.names(count);
+                names.reverse();
+                names
+            }
+            Family::Sixteen => sixteen_to_a_slot(count),
+            _ => (0..count).map(|index| self.name(index)).collect(),
+        }
+    }
+
+    fn name(self, index: usize) -> Vec<u8> {
+        let length = self.name_length(index);
+        let two = two(index);
+        match self {
+            Family::Usual => format!("field{:05}", index + 1).into_bytes(),
+            Family::OneSlot => [b"part", &two[..], b"number"].concat(),
+            Family::Prefix | Family::LongPrefix => [&common(length), &two[..]].concat(),
+            Family::Suffix | Family::LongSuffix => [&two[..], &common(length)].concat(),
+            Family::Lengths => vec![b'n'; length],
+            _ => unreachable!("made together"),
+        }
+    }
+}
+
+/// 64 letters in rising order.
+const LETTERS: &[u8; 64] = b"-0123456789ABCDEFGHIJKLMNOPQRSTUVWXYZ_abcdefghijklmnopqrstuvwxyz";
+
+/// A number under 4,096 as two letters.
+fn two(index: usize) -> [u8; 2] {
+    [LETTERS[index / 64], LETTERS[index % 64]]
+}
+
+/// What names of this length have in common.
+fn common(length: usize) -> Vec<u8> {
+    b"measurement."
+        .iter()
+        .copied()
+        .cycle()
+        .take(length - 2)
+        .collect()
+}
+
+/// Names of ten letters that fall into one slot, found by search.
+fn of_one_mark(count: usize) -> Vec<Vec<u8>> {
+    let mut random = Random::new(23);
+    let mut seen = HashSet::new();
+    let mut names = Vec::new();
+    while names.len() < count {
+        let bits = random.next();
+        let name: [u8; 10] = std::array::from_fn(|i| LETTERS[(bits >> (6 * i)) as usize % 64]);
+        if mark(&name) == 0 && seen.insert(name) {
+            names.push(name.to_vec());
+        }
+    }
+    names
+}
+
+/// So many names in falling order, sixteen for each slot but for the last
+/// name, whose slot is full.
+fn sixteen_to_a_slot(count: usize) -> Vec<Vec<u8>> {
+    let name = |which, group| -> [u8; 12] {
+        let bytes = [b"part", &two(which)[..], &two(group), b"mber"].concat();
+        bytes.try_into().expect("12 bytes")
+    };
+    // Groups whose slots are sixteen apart, so that none fills another's.
+    let mut groups: Vec<usize> = Vec::new();
+    let mut group = 0;
+    while 16 * groups.len() + 1 < count {
+        let slot = home(&name(0, group));
+        if groups
+            .iter()
+            .all(|&g| slot.abs_diff(home(&name(0, g))) >= 16)
+        {
+            groups.push(group);
+        }
+        group += 1;
+    }
+    let mut names = Vec::new();
+    for which in (1..=16).rev() {
+        names.extend(groups.iter().rev().map(|&g| name(which, g).to_vec()));
+    }
+    names.truncate(count - 1);
+    names.push(name(0, groups.last().copied().unwrap_or(0)).to_vec());
+    names
+}
+
+/// Four bytes as a number.
+fn word(name: &[u8], at: usize) -> u64 {
+    let four: [u8; 4] = name[at..at + 4].try_into().expect("four bytes");
+    u64::from(u32::from_le_bytes(four))
+}
+
+/// A slot of 2,048, made of the first and the last four bytes as the library
+/// makes it for its marks (`spread` in the crate opmsg_body_names).
+fn mark(name: &[u8; 10]) -> u64 {
+    (word(name, 0) + 3 * word(name, 6)) * 0x9E3_779B / 0x40_0000 % 2048
+}
+
+/// A slot of 16,368, made of the middle four bytes too.
+fn home(name: &[u8; 12]) -> u64 {
+    let sum = word(name, 0) + 3 * word(name, 8) + 5 * word(name, 6);
+    sum * 0x9E3_779B / 0x40_0000 % 16_368
+}
+
+/// A message with a body of these names, each with a null.
+pub fn message_of(names: &[Vec<u8>]) -> Vec<u8> {
+    let elements: Vec<u8> = names
+        .iter()
+        .flat_map(|name| element(0x0A, name, b""))
+        .collect();
+    with_body(document(&elements))
+}

@@ -1,0 +1,527 @@
+//! Check 23: a name at the top of the body that comes again is refused at its
+//! first byte, and of several the first. Bodies of few names and of as many as
+//! fit, names of all families of the benchmark, and random ones. The C
+//! functions are held against the independent reader, and against what the
+//! names themselves say.
+//!
+//! RELAY_CASES is the number of random cases (1,000 if not set), RELAY_SEED
+//! the seed (1). A failure names its seed and case; RELAY_FIRST=<case>
+//! RELAY_CASES=1 with that seed makes that case alone again:
+//!
+//! ```text
+//! RELAY_CASES=100000 RELAY_SEED=2 cargo test --release --test names
+//! ```
+//!
+//! A message has at most 4,096 elements. Where names are kept in blocks of
+//! more, such as 8,192, no message reaches a second block.
+
+mod common;
+
+use common::bson::*;
+use common::generate::{any_element, Style};
+use common::message::{Draft, Section};
+use common::names::Family;
+use common::random::Random;
+use common::reference::{self, Edition, Refused, View, MAX_ELEMENTS, MAX_MESSAGE, VIEW_NUMBERS};
+use common::setting;
+use relay::ffi;
+use std::collections::HashMap;
+
+const HOUSE: Edition = Edition {
+    bits: 0x0001_0003,
+    sequences: true,
+};
+
+/// What the view and the output are filled with first.
+const NUMBER: i64 = -7_777;
+const BYTE: u8 = 0xAA;
+
+type Names = Vec<Vec<u8>>;
+
+// -------------------------------------------------------------- comparison
+
+/// A message and the places of the names at the top of its body.
+struct Named {
+    message: Vec<u8>,
+    body: Vec<u8>,
+    places: Vec<usize>,
+}
+
+impl Named {
+    /// The elements as a body, with these sections before it.
+    fn new(elements: &[Vec<u8>], before: Vec<Section>) -> Named {
+        let body = document(&elements.concat());
+        let mut sections = before;
+        let start = 21 + sections.iter().map(|s| s.bytes().len()).sum::<usize>();
+        sections.push(Section::Body(body.clone()));
+        let mut places = Vec::new();
+        let mut at = start + 4;
+        for element in elements {
+            places.push(at + 1);
+            at += element.len();
+        }
+        Named {
+            message: Draft::new(sections).bytes(),
+            body,
+            places,
+        }
+    }
+
+    /// Each name with a null.
+    fn nulls(names: &Names) -> Named {
+        let elements: Vec<Vec<u8>> = names.iter().map(|name| element(0x0A, name, b"")).collect();
+        Named::new(&elements, Vec::new())
+    }
+}
+
+/// The first name that is an earlier one's, by its number.
+fn first_again(names: &[Vec<u8>]) -> Option<usize> {
+    let mut seen = HashMap::new();
+    (0..names.len()).find(|&index| seen.insert(&names[index], index).is_some())
+}
+
+/// Reads the names, each with a null: they differ, or this one comes again.
+fn check(names: &Names, again: Option<usize>, case: &str) {
+    let named = Named::nulls(names);
+    assert!(named.message.len() <= MAX_MESSAGE, "{case}: too long");
+    assert_eq!(first_again(names), again, "{case}: the case itself");
+    let expected = reference::read(&HOUSE, &named.message);
+    match (&expected, again) {
+        (Ok(view), None) => assert_eq!(view.elements, names.len(), "{case}: elements"),
+        (Err(refused), Some(index)) => {
+            let place = named.places[index];
+            assert_eq!((refused.number, refused.place), (23, place), "{case}");
+        }
+        _ => panic!("{case}: the independent reader answers {expected:?}"),
+    }
+    compare_read(&named.message, &expected, case);
+}
+
+/// The same with `later` made equal to `earlier`; all others differ.
+fn check_pair(names: &Names, earlier: usize, later: usize, case: &str) {
+    let mut names = names.clone();
+    names[later] = names[earlier].clone();
+    let case = format!("{case}, {} names, {earlier} and {later}", names.len());
+    check(&names, Some(later), &case);
+}
+
+fn result_of<T>(expected: &Result<T, Refused>) -> u64 {
+    match expected {
+        Ok(_) => 0,
+        Err(refused) => u64::from(refused.number) << 32 | refused.place as u64,
+    }
+}
+
+/// A result as a refusal's number and place.
+fn parts(result: u64) -> (u64, u64) {
+    (result >> 32, result & 0xFFFF_FFFF)
+}
+
+fn compare_read(message: &[u8], expected: &Result<View, Refused>, case: &str) {
+    let mut view = [NUMBER; VIEW_NUMBERS];
+    let result = ffi::read(HOUSE.bits, 1, message, &mut view);
+    assert_eq!(parts(result), parts(result_of(expected)), "{case}: read");
+    let shown = match expected {
+        Ok(expected) => expected.numbers(),
+        Err(_) => [NUMBER; VIEW_NUMBERS],
+    };
+    assert!(view == shown, "{case}: the view of read");
+}
+
+/// The three calls that write, on the same message and body.
+fn compare_others(named: &Named, identifier: &[u8], case: &str) {
+    let message = &named.message;
+    let room = MAX_MESSAGE;
+    compare_written(
+        reference::forward(&HOUSE, message, room),
+        |output, view| ffi::forward(HOUSE.bits, 1, message, output, view),
+        &format!("{case}: forward"),
+    );
+    compare_written(
+        reference::write(&HOUSE, 7, 0, 1, &named.body, room),
+        |output, view| ffi::write(HOUSE.bits, 1, 7, 0, 1, &named.body, output, view),
+        &format!("{case}: write"),
+    );
+    compare_written(
+        reference::append(&HOUSE, message, identifier, &EMPTY, room),
+        |output, view| ffi::append(HOUSE.bits, 1, message, identifier, &EMPTY, output, view),
+        &format!("{case}: append"),
+    );
+}
+
+fn compare_written(
+    expected: Result<reference::Written, Refused>,
+    call: impl Fn(&mut [u8], &mut [i64]) -> u64,
+    case: &str,
+) {
+    let mut output = vec![BYTE; MAX_MESSAGE];
+    let mut view = [NUMBER; VIEW_NUMBERS];
+    let result = call(&mut output, &mut view);
+    assert_eq!(parts(result), parts(result_of(&expected)), "{case}");
+    let mut shown = vec![BYTE; MAX_MESSAGE];
+    let mut numbers = [NUMBER; VIEW_NUMBERS];
+    if let Ok((view, message)) = expected {
+        shown[..message.len()].copy_from_slice(&message);
+        numbers = view.numbers();
+    }
+    assert!(output == shown, "{case}: the output");
+    assert!(view == numbers, "{case}: the view");
+}
+
+// ---------------------------------------------------------------- families
+
+#[test]
+fn two_equal_names_around_64() {
+    for family in Family::ALL {
+        let case = family.words();
+        for count in [2, 3, 63, 64, 65, 66, 127, 128, 129, 200] {
+            let names = family.names(count);
+            check(&names, None, case);
+            let mut borders = vec![0, 1, 2, 31, 62, 63, 64, 65, 127, count - 2, count - 1];
+            borders.retain(|&border| border < count);
+            borders.sort_unstable();
+            borders.dedup();
+            for (index, &later) in borders.iter().enumerate() {
+                for &earlier in &borders[..index] {
+                    check_pair(&names, earlier, later, case);
+                }
+            }
+        }
+    }
+}
+
+#[test]
+fn two_equal_names_at_a_distance() {
+    for family in Family::ALL {
+        let case = family.words();
+        for (count, distances) in [(300, &[1, 2, 63, 64, 65][..]), (1_100, &[1_000])] {
+            let count = count.min(family.most());
+            let names = family.names(count);
+            check(&names, None, case);
+            let last = count - 1;
+            for &distance in distances.iter().filter(|&&distance| distance <= last) {
+                check_pair(&names, 0, distance, case);
+                check_pair(&names, (last - distance) / 2, (last + distance) / 2, case);
+                check_pair(&names, last - distance, last, case);
+            }
+        }
+    }
+}
+
+/// The last of as many names as fit is the first again, or for some families
+/// the one before it.
+#[test]
+fn two_equal_names_among_the_most() {
+    for family in Family::ALL {
+        let names = family.names(family.most());
+        let last = names.len() - 1;
+        check_pair(&names, 0, last, family.words());
+        if let Family::Usual | Family::Falling | Family::Sixteen = family {
+            check_pair(&names, last - 1, last, family.words());
+        }
+    }
+}
+
+/// Every element that a message may have is a name at the top.
+#[test]
+fn the_most_names_of_a_message() {
+    let mut names: Names = (0..MAX_ELEMENTS)
+        .map(|index| format!("{index}").into_bytes())
+        .collect();
+    check(&names, None, "4,096 names");
+    check_pair(&names, 0, MAX_ELEMENTS - 1, "4,096 names");
+    check_pair(&names, MAX_ELEMENTS - 2, MAX_ELEMENTS - 1, "4,096 names");
+
+    // One more, and the count comes first.
+    names.push(b"0".to_vec());
+    let message = Named::nulls(&names).message;
+    let expected = reference::read(&HOUSE, &message);
+    assert_eq!(expected.as_ref().map_err(|refused| refused.number), Err(21));
+    compare_read(&message, &expected, "4,097 names");
+}
+
+#[test]
+fn of_several_the_first_counts() {
+    let plants: [&[(usize, usize)]; 6] = [
+        // One inside the other, crossed, and one after the other.
+        &[(10, 90), (40, 60)],
+        &[(10, 60), (40, 90)],
+        &[(10, 40), (60, 90)],
+        // A name three times.
+        &[(5, 70), (5, 150)],
+        // Around the 64th, and right behind each other.
+        &[(0, 65), (1, 64), (2, 66)],
+        &[(198, 199), (197, 198), (0, 197)],
+    ];
+    for family in Family::ALL {
+        let names = family.names(200);
+        for pairs in plants {
+            let mut names = names.clone();
+            for &(earlier, later) in pairs {
+                names[later] = names[earlier].clone();
+            }
+            let first = pairs.iter().map(|pair| pair.1).min();
+            check(&names, first, &format!("{}, {pairs:?}", family.words()));
+        }
+    }
+}
+
+// ------------------------------------------------------------- near misses
+
+#[test]
+fn names_that_differ_in_one_byte() {
+    let mut random = Random::new(11);
+    for length in (1..=24).chain([31, 32, 33, 47, 64, 65, 100]) {
+        let base = random.text(length);
+        let mut names = vec![base.clone()];
+        for place in 0..length {
+            for step in [1, 0x40, 0x80] {
+                let mut name = base.clone();
+                name[place] = match base[place].wrapping_add(step) {
+                    0 => base[place] - 1,
+                    byte => byte,
+                };
+                if !names.contains(&name) && name[place] != 0 {
+                    names.push(name);
+                }
+            }
+        }
+        let case = format!("one byte of {length}");
+        check(&names, None, &case);
+        let last = names.len();
+        names.push(Vec::new());
+        for earlier in [0, 1, last / 2, last - 1] {
+            check_pair(&names, earlier, last, &case);
+        }
+    }
+}
+
+#[test]
+fn an_empty_name_may_stand_once() {
+    let empty = Vec::new();
+    check(&vec![empty.clone()], None, "empty alone");
+    check(&vec![empty.clone(); 2], Some(1), "empty twice");
+    check(&vec![empty.clone(); 3], Some(1), "empty three times");
+    for family in Family::ALL {
+        for place in [0, 1, 63, 64, 65, 199] {
+            let mut names = family.names(200);
+            names[place] = empty.clone();
+            let case = format!("{}, empty at {place}", family.words());
+            check(&names, None, &case);
+            names.push(empty.clone());
+            check(&names, Some(200), &case);
+        }
+    }
+}
+
+#[test]
+fn names_that_begin_other_names() {
+    let text: Vec<u8> = Random::new(5).text(150);
+    let rising: Names = (0..=150).map(|length| text[..length].to_vec()).collect();
+    let falling: Names = rising.iter().rev().cloned().collect();
+    // The same for the ends of a text.
+    let ends: Names = (0..=150).map(|start| text[start..].to_vec()).collect();
+    for (names, case) in [(rising, "rising"), (falling, "falling"), (ends, "ends")] {
+        check(&names, None, case);
+        for earlier in [0, 1, 3, 4, 5, 63, 64, 100, 149] {
+            check_pair(&names, earlier, 150, case);
+        }
+    }
+}
+
+/// All names of one byte, and some of two and three.
+#[test]
+fn short_names() {
+    let one: Names = (1..=255).map(|byte| vec![byte]).collect();
+    let two: Names = (1..=255).map(|byte| vec![byte, 1]).collect();
+    let three: Names = (1..=255).map(|byte| vec![0xFF, byte, 1]).collect();
+    let mut names = [one, two, three].concat();
+    check(&names, None, "short");
+    let last = names.len();
+    names.push(Vec::new());
+    for earlier in (0..last).step_by(7) {
+        check_pair(&names, earlier, last, "short");
+    }
+}
+
+/// Names inside a value are not names at the top.
+#[test]
+fn names_at_other_levels_do_not_count() {
+    for family in Family::ALL {
+        let names = family.names(70);
+        let mut elements = Vec::new();
+        for (index, name) in names.iter().enumerate() {
+            let inner = document(&element(0x0A, &names[69 - index], b"").repeat(2));
+            let kind = [0x03, 0x04, 0x0F][index % 3];
+            elements.push(element(kind, name, &holder(kind, &inner)));
+        }
+        let case = format!("{}, names inside", family.words());
+        let named = Named::new(&elements, Vec::new());
+        let expected = reference::read(&HOUSE, &named.message);
+        assert!(expected.is_ok(), "{case}");
+        compare_read(&named.message, &expected, &case);
+
+        elements.push(elements[69].clone());
+        let named = Named::new(&elements, Vec::new());
+        let expected = reference::read(&HOUSE, &named.message);
+        let place = named.places[70];
+        assert_eq!(expected, Err(Refused { number: 23, place }), "{case}");
+        compare_read(&named.message, &expected, &case);
+    }
+}
+
+// ------------------------------------------------------------ random cases
+
+#[test]
+fn random_bodies() {
+    let seed = setting("RELAY_SEED", 1);
+    let first = setting("RELAY_FIRST", 0);
+    let cases = setting("RELAY_CASES", 1_000);
+    let mut refused = 0;
+    for case in first..first + cases {
+        let random = &mut Random::for_case(seed ^ 0x23, case);
+        refused += u64::from(random_body(random, &format!("seed {seed}, case {case}")));
+    }
+    let accepted = cases - refused;
+    assert!(
+        cases < 100 || refused.min(accepted) > cases / 5,
+        "{refused} of {cases} cases have a name twice"
+    );
+}
+
+/// One body; tells whether it has a name twice.
+fn random_body(random: &mut Random, case: &str) -> bool {
+    let count = match random.below(100) {
+        0 => random.between(1_000, 4_000),
+        1..=6 => random.between(200, 1_100),
+        7..=39 => random.between(60, 200),
+        _ => random.between(1, 70),
+    };
+    let mut names = any_names(random, count);
+    for _ in 0..random.pick(&[0, 0, 0, 1, 1, 2, 5]) {
+        let (from, to) = (random.below(names.len()), random.below(names.len()));
+        names[to] = names[from].clone();
+    }
+    let before = any_sections_before(random, &names);
+    let small = count <= 200;
+    let elements = any_elements(random, &mut names, small);
+    let again = first_again(&names);
+
+    let named = Named::new(&elements, before);
+    let expected = reference::read(&HOUSE, &named.message);
+    let refused = expected.as_ref().err().copied();
+    match again {
+        Some(index) => {
+            let place = named.places[index];
+            assert_eq!(refused, Some(Refused { number: 23, place }), "{case}");
+        }
+        // A sequence may have one of the names.
+        None => assert!(refused.is_none_or(|r| r.number == 24), "{case}"),
+    }
+    compare_read(&named.message, &expected, case);
+    if small {
+        let identifier = any_identifier(random, &names);
+        compare_others(&named, &identifier, case);
+    }
+    again.is_some()
+}
+
+/// Names of a family in any order, or random ones.
+fn any_names(random: &mut Random, count: usize) -> Names {
+    match random.below(10) {
+        0..=5 => {
+            let family = random.pick(&Family::ALL);
+            let mut names = family.names(count.min(family.most()));
+            match random.below(3) {
+                0 => names.reverse(),
+                1 => shuffle(random, &mut names),
+                _ => {}
+            }
+            names
+        }
+        // A common start, and a number that makes them different.
+        6..=7 => {
+            let length = random.below(8);
+            let text = random.text(length);
+            (0..count)
+                .map(|index| [&text, format!("{index}").as_bytes()].concat())
+                .collect()
+        }
+        // One byte of a text changed, at times to what it was.
+        8 => {
+            let length = random.between(1, 20);
+            let text = random.text(length);
+            (0..count.min(300))
+                .map(|_| {
+                    let mut name = text.clone();
+                    name[random.below(length)] = random.byte().max(1);
+                    name
+                })
+                .collect()
+        }
+        _ => {
+            let longest = random.between(1, 12);
+            (0..count)
+                .map(|_| {
+                    let length = random.between(longest.min(4), longest.max(4));
+                    random.text(length)
+                })
+                .collect()
+        }
+    }
+}
+
+fn shuffle(random: &mut Random, names: &mut Names) {
+    for index in (1..names.len()).rev() {
+        names.swap(index, random.below(index + 1));
+    }
+}
+
+/// An element for each name: of any type where they are few, else a null.
+/// Names for which there is no room are left out.
+fn any_elements(random: &mut Random, names: &mut Names, any_type: bool) -> Vec<Vec<u8>> {
+    let style = Style {
+        depth: 2,
+        ..Style::SMALL
+    };
+    let mixed = any_type && random.percent(50);
+    let mut left = MAX_MESSAGE - 200;
+    let mut elements = Vec::new();
+    for name in names.iter() {
+        let element = if mixed {
+            any_element(random, style, name)
+        } else {
+            element(0x0A, name, b"")
+        };
+        if left < element.len() {
+            break;
+        }
+        left -= element.len();
+        elements.push(element);
+    }
+    names.truncate(elements.len());
+    elements
+}
+
+/// No section before the body, or a sequence.
+fn any_sections_before(random: &mut Random, names: &Names) -> Vec<Section> {
+    if random.percent(70) {
+        return Vec::new();
+    }
+    let mut identifier = any_identifier(random, names);
+    identifier.truncate(80);
+    vec![Section::Sequence {
+        identifier,
+        documents: EMPTY.to_vec(),
+    }]
+}
+
+/// An identifier, at times one of the names.
+fn any_identifier(random: &mut Random, names: &Names) -> Vec<u8> {
+    let name = &names[random.below(names.len())];
+    if random.percent(50) && !name.is_empty() {
+        name.clone()
+    } else {
+        b"+documents".to_vec()
+    }
+}
