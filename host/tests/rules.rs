@@ -423,6 +423,8 @@ fn short_messages_give_7_8_and_7_again() {
         assert_eq!(short(length, 1), Err(Refusal::LengthTooSmall(16)));
     }
     assert_eq!(short(24, 1), Err(Refusal::ChecksumDiffers(20)));
+    // The same checksum differs, and an unknown bit comes before it.
+    assert_eq!(short(24, 5), Err(Refusal::UnknownFlag(16)));
     assert_eq!(short(20, 0), Err(Refusal::NoBody(20)));
     assert_eq!(short(15, 0), Err(Refusal::LengthOutOfRange(0)));
 }
