@@ -24,13 +24,13 @@ unfolding maxElements
 some-elements = omega arith
 
 -- a head that is read: its value fits, and it is read so at any place where another element is allowed
-record HeadRead (xs : List ℕ) (h : Head) : Type 0 where
-  least : 2 ≤ h .start
-  fits : h .start ≤ length xs
-  value : ValueWithin (h .value) (drop (h .start) xs)
-  anywhere : (at count : ℕ) → count < maxElements → head at xs count ≡ ok h
+pub record HeadRead (xs : List ℕ) (h : Head) : Type 0 where
+  pub least : 2 ≤ h .start
+  pub fits : h .start ≤ length xs
+  pub value : ValueWithin (h .value) (drop (h .start) xs)
+  pub anywhere : (at count : ℕ) → count < maxElements → head at xs count ≡ ok h
 
-head-read : (at : ℕ) (xs : List ℕ) (count : ℕ) (h : Head) → head at xs count ≡ ok h → HeadRead xs h
+pub head-read : (at : ℕ) (xs : List ℕ) (count : ℕ) (h : Head) → head at xs count ≡ ok h → HeadRead xs h
 unfolding head
 head-read at xs count h e =
     let n = untilZero (drop 1 xs) in

@@ -102,13 +102,13 @@ codeWithScope-fits v w xs x h =
       rw (← ok-same (f .2)) (omega (arith, k .1, l .0, length-take (word xs - 4) (drop 4 xs)), ltb-false (length xs) (word xs) (e .0)),
     )
 
--- all rows of a table
+-- the rules of all rows of a table
 infixr 50 _and_
-data RowsFit : List Row → Type 0 where
-  none : RowsFit []
-  _and_ : {row : Row} {rows : List Row} → RuleFits (row .rule) → RowsFit rows → RowsFit (row ∷ rows)
+pub data Rules (P : Rule → Type 0) : List Row → Type 0 where
+  none : Rules P []
+  _and_ : {row : Row} {rows : List Row} → P (row .rule) → Rules P rows → Rules P (row ∷ rows)
 
-table-fits : RowsFit table
+table-fits : Rules RuleFits table
 unfolding table
 table-fits =
     bytes-fits _ (sized-fits 8)
@@ -125,7 +125,7 @@ table-fits =
     and codeWithScope-fits
     and none
 
-rule-fits : (rows : List Row) (at b t : ℕ) {rule : Rule} → RowsFit rows → ruleIn rows at t ≡ ok rule → (ruleIn rows b t ≡ ok rule) × RuleFits rule
+rule-fits : (rows : List Row) (at b t : ℕ) {rule : Rule} → Rules RuleFits rows → ruleIn rows at t ≡ ok rule → (ruleIn rows b t ≡ ok rule) × RuleFits rule
 unfolding ruleIn
 rule-fits [] at b t none h = not-ok h
 rule-fits (r ∷ rows) at b t {rule} (k and ks) h = go (oneOf (r .types) t) (rule-fits rows at b t ks) h

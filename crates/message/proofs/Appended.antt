@@ -35,14 +35,14 @@ module _ (s : List ℕ) (k : Sound s) (f : ℕ) (ys : List ℕ) (small : f < 2 ^
   pub appended-word : (i : ℕ) → i + 4 ≤ 12 → wordAt (4 + i) (appended s f ys) ≡ wordAt (4 + i) s
   unfolding appended wordAt le32
   appended-word i l =
-      message-word header f ys form (4 + i) (omega arith)
+      message-word header f ys (form .sixteen) (4 + i) (omega arith)
       ∙ ap word (drop-append-add (le32 (wholeLength f ys)) (take 12 (drop 4 s)) i)
       ∙ sym (wordAt-front i (take 12 (drop 4 s)) (drop 12 (drop 4 s)) (omega (arith, rest-length)))
       ∙ ap (wordAt i) (take-append-drop 12 (drop 4 s)) ∙ ap word (drop-drop i 4 s)
 
   pub appended-stated : messageLength (appended s f ys) ≡ wholeLength f ys
   unfolding appended
-  appended-stated = message-word header f ys form 0 (omega arith) ∙ form .stated
+  appended-stated = message-word header f ys (form .sixteen) 0 (omega arith) ∙ form .stated
 
   pub appended-flags : flagWord (appended s f ys) ≡ f
   unfolding appended
@@ -62,7 +62,7 @@ module _ (s : List ℕ) (k : Sound s) (f : ℕ) (ys : List ℕ) (small : f < 2 ^
 
   opcode : wordAt 12 header ≡ 2013
   unfolding appended
-  opcode = sym (message-word header f ys form 12 (omega arith)) ∙ appended-word 8 (omega arith) ∙ k .opcode
+  opcode = sym (message-word header f ys (form .sixteen) 12 (omega arith)) ∙ appended-word 8 (omega arith) ∙ k .opcode
 
   pub appended-sound : Sound (appended s f ys)
   unfolding appended

@@ -50,7 +50,7 @@ module _ (e : Edition) (s : List ℕ) (v : View) (h : read e s ≡ ok v) where
 
   pub forwarded-word : (k : ℕ) → k + 4 ≤ 16 → wordAt k (forwarded s v) ≡ wordAt k s
   unfolding forwarded
-  forwarded-word k l = message-word (take 16 s) (v .flags) (sectionBytes s) form k l ∙ header-word s (reads h .sound) k l
+  forwarded-word k l = message-word (take 16 s) (v .flags) (sectionBytes s) (form .sixteen) k l ∙ header-word s (reads h .sound) k l
 
   pub forwarded-flags : flagWord (forwarded s v) ≡ v .flags
   unfolding forwarded
@@ -64,7 +64,7 @@ module _ (e : Edition) (s : List ℕ) (v : View) (h : read e s ≡ ok v) where
   unfolding forwarded
   forwarded-end = message-end (take 16 s) (v .flags) (sectionBytes s) form ∙ sym (stated-end s (reads h .sound))
 
-  forwarded-length : length (forwarded s v) ≡ messageLength s
+  pub forwarded-length : length (forwarded s v) ≡ messageLength s
   unfolding forwarded
   forwarded-length = message-length (take 16 s) (v .flags) (sectionBytes s) form ∙ forwarded-word 0 (omega arith)
 
@@ -86,7 +86,7 @@ module _ (e : Edition) (s : List ℕ) (v : View) (h : read e s ≡ ok v) where
   forwarded-again w = rw (forwarded-bytes, message-header (take 16 s) (v .flags) (sectionBytes s) form)
 
   -- the edition accepts what it forwards, and shows the same
-  own-forward : read e (forwarded s v) ≡ ok v
+  pub own-forward : read e (forwarded s v) ≡ ok v
   own-forward =
       let r = reads h in
       let b = known-allKnown 16 (e .bits) (flagWord (forwarded s v)) (rw (forwarded-flags, view-flags) (kept-known 16 (e .bits) (e .bits) (flagWord s) required)) in

@@ -57,6 +57,27 @@ pub right-checksum : (s : List ℕ) → checksumDiffers s ≡ false → checksum
 unfolding checksumDiffers
 right-checksum s h c = eqb-true _ _ (not-false _ (rw (checksumDiffers, c) at h))
 
+-- a message without its checksum
+abbrev bare : List ℕ → ℕ → List ℕ → List ℕ
+bare h f xs = h ++ (le32 f ++ xs)
+
+shape : (h : List ℕ) (f : ℕ) (xs : List ℕ) → message h f xs ≡ h ++ (le32 f ++ (xs ++ checksum f (bare h f xs)))
+unfolding message le32
+shape h f xs = append-assoc h (le32 f ++ xs) (checksum f (bare h f xs))
+
+-- a header of 16 bytes, whatever it states
+module _ (h : List ℕ) (f : ℕ) (xs : List ℕ) (sixteen : length h ≡ 16) where
+  length-bare : length (bare h f xs) ≡ 20 + length xs
+  unfolding le32
+  length-bare = omega (arith, length-append h (le32 f ++ xs))
+
+  pub message-word : (k : ℕ) → k + 4 ≤ 16 → wordAt k (message h f xs) ≡ wordAt k h
+  message-word k l = rw (shape h f xs) (wordAt-front k h _ (omega arith))
+
+  pub message-whole : length (message h f xs) ≡ wholeLength f xs
+  unfolding message wholeLength
+  message-whole = rw (length-append (bare h f xs) (checksum f (bare h f xs)), length-bare, length-checksum f (bare h f xs))
+
 -- a header of 16 bytes that states the length of the whole
 pub record Headed (h : List ℕ) (f : ℕ) (xs : List ℕ) : Type 0 where
   pub sixteen : length h ≡ 16
@@ -64,37 +85,26 @@ pub record Headed (h : List ℕ) (f : ℕ) (xs : List ℕ) : Type 0 where
   pub small : f < 2 ^ 32
 
 module _ (h : List ℕ) (f : ℕ) (xs : List ℕ) (g : Headed h f xs) where
-  abbrev bare : List ℕ
-  bare = h ++ (le32 f ++ xs)
-
-  length-bare : length bare ≡ 20 + length xs
-  unfolding le32
-  length-bare = omega (arith, length-append h (le32 f ++ xs), g .sixteen)
-
-  shape : message h f xs ≡ h ++ (le32 f ++ (xs ++ checksum f bare))
-  unfolding message le32
-  shape = append-assoc h (le32 f ++ xs) (checksum f bare)
-
-  pub message-word : (k : ℕ) → k + 4 ≤ 16 → wordAt k (message h f xs) ≡ wordAt k h
-  message-word k l = rw shape (wordAt-front k h _ (omega (arith, g .sixteen)))
+  abbrev before : List ℕ
+  before = bare h f xs
 
   pub message-header : take 16 (message h f xs) ≡ h
-  message-header = rw shape (take-at h _ 16 (g .sixteen))
+  message-header = rw (shape h f xs) (take-at h _ 16 (g .sixteen))
 
-  behind : drop 16 (message h f xs) ≡ le32 f ++ (xs ++ checksum f bare)
-  behind = rw shape (drop-at h _ 16 (g .sixteen))
+  behind : drop 16 (message h f xs) ≡ le32 f ++ (xs ++ checksum f before)
+  behind = rw (shape h f xs) (drop-at h _ 16 (g .sixteen))
 
   pub message-flags : flagWord (message h f xs) ≡ f
   unfolding wordAt
   message-flags = rw behind (word-le32 f _ (g .small))
 
-  rest : drop 20 (message h f xs) ≡ xs ++ checksum f bare
+  rest : drop 20 (message h f xs) ≡ xs ++ checksum f before
   unfolding le32
   rest = sym (drop-drop 4 16 (message h f xs)) ∙ ap (drop 4) behind
 
   stated-whole : messageLength (message h f xs) ≡ 20 + length xs + checksumSize f
   unfolding wholeLength
-  stated-whole = message-word 0 (omega arith) ∙ g .stated
+  stated-whole = message-word h f xs (g .sixteen) 0 (omega arith) ∙ g .stated
 
   pub message-end : sectionsEnd (message h f xs) ≡ 20 + length xs
   unfolding sectionsEnd
@@ -105,21 +115,21 @@ module _ (h : List ℕ) (f : ℕ) (xs : List ℕ) (g : Headed h f xs) where
   message-sections = rw (message-end, rest) (take-at xs _ (20 + length xs - 20) (omega arith))
 
   pub message-length : length (message h f xs) ≡ messageLength (message h f xs)
-  unfolding message
-  message-length = rw (stated-whole, length-append bare (checksum f bare), length-bare, length-checksum f bare)
+  unfolding wholeLength
+  message-length = message-whole h f xs (g .sixteen) ∙ sym stated-whole
 
-  sum-there : checksummed f ≡ true → wordAt (length bare) (message h f xs) ≡ crcOf bare
+  sum-there : checksummed f ≡ true → wordAt (length before) (message h f xs) ≡ crcOf before
   unfolding wordAt message
-  sum-there c = rw (drop-at bare (checksum f bare) (length bare) refl, checksum-with f bare c, ← append-nil (le32 (crcOf bare))) (word-le32 (crcOf bare) [] (crc-lt bare))
+  sum-there c = rw (drop-at before (checksum f before) (length before) refl, checksum-with f before c, ← append-nil (le32 (crcOf before))) (word-le32 (crcOf before) [] (crc-lt before))
 
-  before-sum : take (length bare) (message h f xs) ≡ bare
+  before-sum : take (length before) (message h f xs) ≡ before
   unfolding message
-  before-sum = take-at bare (checksum f bare) (length bare) refl
+  before-sum = take-at before (checksum f before) (length before) refl
 
   message-checksum : checksumDiffers (message h f xs) ≡ false
   message-checksum = checksum-right (message h f xs) λ c.
       let d : checksummed f ≡ true = rw message-flags at c in
-      let k : messageLength (message h f xs) - 4 ≡ length bare = omega (arith, stated-whole, size-with f d, length-bare) in
+      let k : messageLength (message h f xs) - 4 ≡ length before = omega (arith, stated-whole, size-with f d, length-bare h f xs (g .sixteen)) in
       rw (k, before-sum) (sum-there d)
 
   -- with the limit kept and the opcode of OP_MSG, its header is sound
@@ -131,7 +141,7 @@ module _ (h : List ℕ) (f : ℕ) (xs : List ℕ) (g : Headed h f xs) where
         least = omega arith;
         limit = omega arith;
         whole = omega (arith, message-length);
-        opcode = message-word 12 (omega arith) ∙ c;
+        opcode = message-word h f xs (g .sixteen) 12 (omega arith) ∙ c;
         ended = rw message-flags (omega arith);
         checksum = message-checksum;
       }

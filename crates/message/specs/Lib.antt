@@ -5,4 +5,6 @@ pub mod Append
 pub mod Editions
 pub mod Demand3
 pub mod RoundTrip
+pub mod Refusals
+pub mod WrittenMessages
 pub mod Inner

@@ -138,7 +138,7 @@ module _ (e : Edition) (i j : ℤ) (flags : ℕ) (s : List ℕ) (room : ℕ) (fi
     unfolding viewOf shown bodyStart bodySize sequencesOf wordAt le32 written
     written-view d =
         let g = front-headed in
-        let words = message-word front flags (0 ∷ s) g in
+        let words = message-word front flags (0 ∷ s) (g .sixteen) in
         let first : wordAt 4 front ≡ bits32 i = word-le32 (bits32 i) _ (bits32-lt i fits-i) in
         let second : wordAt 8 front ≡ bits32 j = word-le32 (bits32 j) _ (bits32-lt j fits-j) in
         rw (

@@ -4,13 +4,13 @@ use Prim.Native.Nat.{ℕ, _+_, _≤_, _<_}
 use mathlib.Core.Path.{_≡_, refl, _∙_}
 use mathlib.Core.List.{List, [], _∷_, _++_}
 use native.Mathlib.Omega.{arith}
-use lib.ListN.{length, take, set, length-append}
+use lib.ListN.{length, take, set}
 use lib.IntN.{ℤ}
 use Rattle.wire.specs.Bytes.{le32, bits32, put}
 use Rattle.opmsg.specs.Layout.{checksumSize}
 use Rattle.message.specs.Message.{checksum, message, wholeLength}
 use Rattle.message.specs.Write.{written}
-use Rattle.message.proofs.Message.{length-checksum}
+use Rattle.message.proofs.Message.{message-whole}
 use Rattle.message_seal.proofs.Stores.{Stored, stores-none, stored-length, stores, stores-byte, sealed}
 
 -- after each store
@@ -53,7 +53,7 @@ module _ (i j : ℤ) (flags : ℕ) (s old n₁ n₂ n₃ n₄ n₅ : List ℕ) (
 
 -- what it is laid over keeps its length
 pub laid-length : (i j : ℤ) (flags : ℕ) (s old new : List ℕ) → wholeLength flags (0 ∷ s) ≤ length old → Stored (written i j flags s) old new → length new ≡ length old
-unfolding le32 written message wholeLength
+unfolding le32 written
 laid-length i j flags s old new room e =
-    let m = le32 (wholeLength flags (0 ∷ s)) ++ (le32 (bits32 i) ++ (le32 (bits32 j) ++ (le32 2013 ++ (le32 flags ++ (0 ∷ s))))) in
-    stored-length (written i j flags s) old new (omega (arith, length-append m (checksum flags m), length-checksum flags m)) e
+    let n : length (written i j flags s) ≡ wholeLength flags (0 ∷ s) = message-whole _ flags (0 ∷ s) refl in
+    stored-length (written i j flags s) old new (omega arith) e

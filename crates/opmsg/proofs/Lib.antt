@@ -6,3 +6,4 @@ pub mod Front
 pub mod Shown
 pub mod Differ
 pub mod Answered
+pub mod Bounds

@@ -1,6 +1,6 @@
 -- What a call that writes a message promises, by the room for its view.
 -- Assumes nothing.
-use Prim.Native.Nat.{ℕ, _+_, _*_, _%_, _^_, _<_, _≤_}
+use Prim.Native.Nat.{ℕ, _+_, _*_, _^_, _<_, _≤_}
 use mathlib.Core.Path.{_≡_, refl, ap, _∙_}
 use mathlib.Core.List.{List, _++_}
 use native.Mathlib.Omega.{arith}
@@ -24,7 +24,7 @@ Promised room o code old out view shown =
 
 module _ (room : ℕ) (o : Outcome Written) (old : List ℕ) (view : List ℤ) where
   -- a refusal leaves all as it was
-  pub refused-leaves : {number place code : ℕ} → withRoom room o ≡ refused number place → code ≡ number * 2 ^ 32 + place % 2 ^ 32 → Promised room o code old old view view
+  pub refused-leaves : {number place code : ℕ} → withRoom room o ≡ refused number place → code ≡ number * 2 ^ 32 + place → Promised room o code old old view view
   unfolding result output numbers viewed _>>=_
   refused-leaves h c = rw h (c, (refl, refl))
 

@@ -1,6 +1,6 @@
 -- The interface for C and Rust: numbers and slices only.
 -- Assumes nothing: these are definitions.
-use Prim.Native.Nat.{ℕ, _+_, _*_, _%_, _^_}
+use Prim.Native.Nat.{ℕ, _+_, _*_, _^_}
 use mathlib.Core.Bool.{not}
 use mathlib.Core.List.{List, _++_}
 use lib.ListN.{drop}
@@ -31,7 +31,7 @@ withRoom room o = do
 -- the result: 0 where the call accepts, or else number × 2 ^ 32 + place; a place is below 2 ^ 32
 unfoldable pub result : {A : Type 0} → Outcome A → ℕ
 result (ok a) = 0
-result (refused number place) = number * 2 ^ 32 + place % 2 ^ 32
+result (refused number place) = number * 2 ^ 32 + place
 
 -- the lent numbers after the call: those of the view and then what stood there, or all as it was
 unfoldable pub numbers : Outcome View → List ℤ → List ℤ

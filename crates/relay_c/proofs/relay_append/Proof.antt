@@ -3,10 +3,19 @@
 use lib.ListN.{length}
 use borrow.Author.Needs.{needs}
 use Rattle.message.specs.Append.{append}
+use Rattle.message.proofs.Refusals.{refusals-bounded}
 use Rattle.relay_c_results.specs.Numbers.{viewSize}
 use Rattle.relay_c.proofs.Results.{short, told}
+use Rattle.relay_c.proofs.Tells.{viewed-placed, decided-placed}
 use Rattle.relay_c.proofs.relay_append.Statement.{statement}
 use Rattle.relay_c.proofs.relay_append.Tie as tie
+
+without-view-requires : tie.Need-without-view-requires
+without-view-requires c κs =
+    let e = c .before .before in
+    let a = e .before .before .before .before .before in
+    decided-placed _ (c .check .result) (refusals-bounded .appends (e .edition .result) (a .args .message .now) (a .args .identifier .now) (a .args .documents .now) (length (a .args .out .now)))
+    (c .check .ensures)
 
 returns : tie.Need-returns
 unfolding viewSize
@@ -16,6 +25,11 @@ returns c =
     let a = e .before .before .before .before .before in
     let o = append (e .edition .result) (a .args .message .now) (a .args .identifier .now) (a .args .documents .now) (length (a .args .out .now)) in
     rw (← e .edition .ensures) (short _ o (k .check .result) _ _ (k .before .if1 .taken) (k .check .ensures) (c .without-view .ensures))
+
+answered-requires : tie.Need-answered-requires
+answered-requires c κs =
+    let w = c .before .before .before in
+    viewed-placed _ (w .append .result) (refusals-bounded .appends _ _ _ _ _) (w .append .ensures .0)
 
 returns-2 : tie.Need-returns-2
 unfolding viewSize
@@ -31,10 +45,10 @@ relay-append-spec =
     (tie.spec
     (λ c κs. search needs)
     (λ c κs. search needs)
-    (λ c κs. search needs)
+    without-view-requires
     returns
     (λ c κs. search needs)
-    (λ c κs. search needs)
+    answered-requires
     (λ c. search needs)
     (λ c. search needs)
     returns-2)

@@ -7,12 +7,20 @@ use Rattle.wire.specs.Outcome.{ok}
 use Rattle.opmsg.specs.Read.{read}
 use Rattle.opmsg.proofs.Answered.{answer-refused, answer-accepted}
 use Rattle.message.specs.Forward.{forwarded, forward}
+use Rattle.message.proofs.Refusals.{refusals-bounded}
 use Rattle.message.proofs.Forwarding.{forward-refused, forward-short, forward-fits}
 use Rattle.relay_c_results.specs.Numbers.{viewSize}
 use Rattle.relay_c_results.proofs.Room.{own-refusal, no-room, has-room}
 use Rattle.relay_c.proofs.Results.{refused-leaves, accepted-leaves}
 use Rattle.relay_c.proofs.relay_forward.Statement.{statement}
 use Rattle.relay_c.proofs.relay_forward.Tie as tie
+
+refusal-requires : tie.Need-refusal-requires
+refusal-requires c κs =
+    let v = c .before in
+    let r = v .before .before in
+    let e = r .before in
+    refusals-bounded .reads (e .edition .result) (e .before .before .before .args .message .now) _ _ (answer-refused _ _ (r .read .ensures) (v .verdict .given .1)) .2
 
 returns : tie.Need-returns
 returns c =
@@ -82,7 +90,7 @@ relay-forward-spec =
     (λ c κs. search needs)
     (λ c κs. search needs)
     (λ c. search needs)
-    (λ c κs. search needs)
+    refusal-requires
     returns
     (λ c. search needs)
     (λ c. search needs)

@@ -2,10 +2,18 @@
 -- Assumes nothing.
 use mathlib.Core.Path.{ap, _∙_}
 use borrow.Author.Needs.{needs}
+use Rattle.message.proofs.Refusals.{refusals-bounded}
 use Rattle.relay_c_results.specs.Interface.{outcome}
 use Rattle.relay_c_results.proofs.Room.{outcome-answer}
+use Rattle.relay_c.proofs.Tells.{answer-placed}
 use Rattle.relay_c.proofs.relay_read.Statement.{statement}
 use Rattle.relay_c.proofs.relay_read.Tie as tie
+
+answered-requires : tie.Need-answered-requires
+answered-requires c κs =
+    let r = c .before in
+    let e = r .before in
+    answer-placed _ (r .read .result) (refusals-bounded .reads (e .edition .result) (e .before .before .args .message .now)) (r .read .ensures)
 
 returns : tie.Need-returns
 returns c =
@@ -18,6 +26,6 @@ relay-read-spec =
     (tie.spec
     (λ c κs. search needs)
     (λ c κs. search needs)
-    (λ c κs. search needs)
+    answered-requires
     (λ c. search needs)
     returns)

@@ -4,10 +4,19 @@ use lib.ListN.{length}
 use mir.Facts.{toZ-ofZ}
 use borrow.Author.Needs.{needs}
 use Rattle.message.specs.Write.{write}
+use Rattle.message.proofs.Refusals.{refusals-bounded}
 use Rattle.relay_c_results.specs.Numbers.{viewSize}
 use Rattle.relay_c.proofs.Results.{short, told}
+use Rattle.relay_c.proofs.Tells.{viewed-placed, decided-placed}
 use Rattle.relay_c.proofs.relay_write.Statement.{statement}
 use Rattle.relay_c.proofs.relay_write.Tie as tie
+
+without-view-requires : tie.Need-without-view-requires
+without-view-requires c κs =
+    let e = c .before .before in
+    let a = e .before .before .before in
+    decided-placed _ (c .check .result) (refusals-bounded .writes (e .edition .result) (a .args .request-id) (a .args .response-to) (a .args .flags) (a .args .body .now) (length (a .args .out .now)))
+    (c .check .ensures (a .args .request-id) (a .args .response-to))
 
 returns : tie.Need-returns
 unfolding viewSize
@@ -18,6 +27,11 @@ returns c =
     let o = write (e .edition .result) (a .args .request-id) (a .args .response-to) (a .args .flags) (a .args .body .now) (length (a .args .out .now)) in
     rw (← e .edition .ensures)
     (short _ o (k .check .result) _ _ (k .before .if1 .taken) (k .check .ensures (a .args .request-id) (a .args .response-to)) (c .without-view .ensures))
+
+answered-requires : tie.Need-answered-requires
+answered-requires c κs =
+    let w = c .before .before .before in
+    viewed-placed _ (w .write .result) (refusals-bounded .writes _ _ _ _ _ _) (w .write .ensures .0)
 
 returns-2 : tie.Need-returns-2
 unfolding viewSize
@@ -37,10 +51,10 @@ relay-write-spec =
     (tie.spec
     (λ c κs. search needs)
     (λ c κs. search needs)
-    (λ c κs. search needs)
+    without-view-requires
     returns
     (λ c κs. search needs)
-    (λ c κs. search needs)
+    answered-requires
     (λ c. search needs)
     (λ c. search needs)
     returns-2)

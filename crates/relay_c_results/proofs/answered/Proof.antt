@@ -9,6 +9,9 @@ use Rattle.relay_c_results.proofs.Room.{outcome-refused, outcome-accept
 use Rattle.relay_c_results.proofs.answered.Statement.{statement}
 use Rattle.relay_c_results.proofs.answered.Tie as tie
 
+refusal-requires : tie.Need-refusal-requires
+refusal-requires c κs = let v = c .before in rw (v .verdict .given .1) at (v .before .before .pre)
+
 returns : tie.Need-returns
 unfolding result numbers
 returns c =
@@ -43,7 +46,7 @@ answered-spec =
     tie.close
     (tie.spec
     (λ c. search needs)
-    (λ c κs. search needs)
+    refusal-requires
     returns
     (λ c. search needs)
     (λ c κs. search needs)

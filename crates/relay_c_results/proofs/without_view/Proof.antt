@@ -10,6 +10,9 @@ use Rattle.relay_c_results.proofs.Room.{own-refusal, no-room}
 use Rattle.relay_c_results.proofs.without_view.Statement.{statement}
 use Rattle.relay_c_results.proofs.without_view.Tie as tie
 
+refusal-requires : tie.Need-refusal-requires
+refusal-requires c κs = let v = c .before in rw (v .verdict .given .1) at (v .before .before .pre)
+
 returns : tie.Need-returns
 unfolding result
 returns c =
@@ -25,7 +28,7 @@ without-view-spec =
     tie.close
     (tie.spec
     (λ c. search needs)
-    (λ c κs. search needs)
+    refusal-requires
     returns
     (λ c. search needs)
     (λ c κs. search needs)

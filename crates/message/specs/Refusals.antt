@@ -1,0 +1,23 @@
+-- What callers rely on of a refusal, whatever call gives it.
+-- Assumes nothing: these are definitions.
+use Prim.Native.Nat.{ℕ, _^_, _≤_, _<_}
+use mathlib.Core.Path.{_≡_}
+use mathlib.Core.List.{List}
+use lib.IntN.{ℤ}
+use Rattle.wire.specs.Outcome.{Outcome, refused}
+use Rattle.opmsg.specs.Read.{read}
+use Rattle.message.specs.Forward.{forward}
+use Rattle.message.specs.Write.{write}
+use Rattle.message.specs.Append.{append}
+use Rattle.opmsg.specs.declared.Edition.{Edition}
+
+-- a refusal has one of document 01's numbers, and a place of 32 bits
+abbrev pub Bounded : {A : Type 0} → Outcome A → Type 0
+Bounded o = (number place : ℕ) → o ≡ refused number place → (1 ≤ number) × (number ≤ 25) × (place < 2 ^ 32)
+
+-- each refusal of the four calls is such
+pub record RefusalsBounded : Type 0 where
+  pub reads : (e : Edition) (s : List ℕ) → Bounded (read e s)
+  pub forwards : (e : Edition) (s : List ℕ) (room : ℕ) → Bounded (forward e s room)
+  pub writes : (e : Edition) (requestId responseTo : ℤ) (flags : ℕ) (body : List ℕ) (room : ℕ) → Bounded (write e requestId responseTo flags body room)
+  pub appends : (e : Edition) (s identifier documents : List ℕ) (room : ℕ) → Bounded (append e s identifier documents room)
