@@ -17,11 +17,10 @@ use Rattle.opmsg_name_tables.specs.declared.Tried.the-variants.{Place, C
 use Rattle.opmsg_name_tables.specs.declared.Found.{Found}
 use Rattle.opmsg_name_tables.specs.declared.Found.the-variants.{Seen, Insert}
 
--- ---- an order of texts: by their lengths, and those of one length by the first byte at which they differ
+-- ---- an order of texts: by the first byte at which they differ, where a text that ends counts as a zero
 
--- what texts are compared by: the length, then the bytes
 abbrev pub key : List ℕ → ℕ → ℕ
-key a i = getD (length a ∷ a) i 0
+key a i = getD a i 0
 
 pub record Less (a b : List ℕ) : Type 0 where
   pub place : ℕ
@@ -42,6 +41,10 @@ nameText xs = take (untilZero (drop 1 xs)) (drop 1 xs)
 -- the names of the elements of xs
 unfoldable pub namesOf : List ℕ → List (List ℕ)
 namesOf xs = texts (elementNames (length xs) 0 xs)
+
+-- a text has no zero byte
+abbrev pub WithoutZero : List ℕ → Type 0
+WithoutZero t = untilZero t ≡ length t
 
 -- the name of the element at a place of xs
 abbrev pub textAt : List ℕ → ℕ → List ℕ

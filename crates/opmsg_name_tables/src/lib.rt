@@ -9,10 +9,11 @@ ghost use mathlib.Core.Bool.{true, false};
 ghost use mathlib.Core.List.{[]};
 ghost use mathlib.Core.Path.{_≡_};
 ghost use Prim.Native.Nat.{ℕ, _+_, _-_, _*_, _/_, _%_, _^_, _<_, _≤_};
-ghost use lib.ListN.{length, getD, drop};
+ghost use lib.ListN.{length, getD, take};
+ghost use Rattle.wire.specs.Bytes.{untilZero};
 ghost use Rattle.opmsg.specs.Names.{distinct, elementNames};
 ghost use Rattle.opmsg.specs.Inner.{judged, Filled};
-ghost use Rattle.opmsg_name_tables.specs.Inner.{Ordered, nameText, textAt, Sorted, Looked, Inserted, Cleared, First, Blank, reach, mixed, hashOf, homeOf, Probed, Attempt};
+ghost use Rattle.opmsg_name_tables.specs.Inner.{Ordered, WithoutZero, nameText, textAt, Sorted, Looked, Inserted, Cleared, First, Blank, reach, mixed, hashOf, homeOf, Probed, Attempt};
 
 // How far on from their own slot names may stand.
 const REACH: usize = 32;
@@ -43,40 +44,45 @@ pub fn name(xs: &[u8]) -> &[u8]
     &rest[..n]
 }
 
-// Which of two texts comes first: the shorter, or that with the lower byte where they first differ.
-fn compare(a: &[u8], b: &[u8]) -> Order
-    ensures { λ r. ⌜ Ordered (now (a .entry)) (now (b .entry)) r ⌝ }
+// Which comes first, a text or the name that the bytes begin with: that with the lower byte where they first differ.
+fn compare(text: &[u8], bytes: &[u8]) -> Order
+    requires { ⌜ WithoutZero (now text) ⌝ }
+    ensures { λ r. ⌜ Ordered (now (text .entry)) (take (untilZero (now (bytes .entry))) (now (bytes .entry))) r ⌝ }
 {
-    if a.len() < b.len() {
-        return Order::Before;
-    }
-    if b.len() < a.len() {
-        return Order::After;
-    }
     let mut i: usize = 0;
-    while i < a.len() {
-        if a[i] < b[i] {
+    while i < text.len() {
+        if bytes.len() <= i {
+            return Order::After;
+        }
+        if text[i] < bytes[i] {
             return Order::Before;
         }
-        if b[i] < a[i] {
+        if bytes[i] < text[i] {
             return Order::After;
         }
         i += 1;
+    }
+    if bytes.len() <= i {
+        return Order::Same;
+    }
+    if 0 < bytes[i] {
+        return Order::Before;
     }
     Order::Same
 }
 
 // A text beside the name of the element at a place.
 fn against(xs: &[u8], place: usize, text: &[u8]) -> Order
-    requires { ⌜ place < length (now xs) ⌝ }
+    requires { ⌜ (place < length (now xs)) × WithoutZero (now text) ⌝ }
     ensures { λ r. ⌜ Ordered (now (text .entry)) (textAt (now (xs .entry)) place) r ⌝ }
 {
-    compare(text, name(&xs[place..]))
+    let start = place + 1;
+    compare(text, &xs[start..])
 }
 
 // Looks a text up among the names at the first m places of a table.
 fn find(xs: &[u8], table: &[u32], m: usize, text: &[u8]) -> Found
-    requires { ⌜ Sorted (now xs) (now table) m × (length (now xs) < 2 ^ 32) ⌝ }
+    requires { ⌜ Sorted (now xs) (now table) m × (length (now xs) < 2 ^ 32) × WithoutZero (now text) ⌝ }
     ensures { λ r. ⌜ Looked (now (xs .entry)) (now (table .entry)) m (now (text .entry)) r ⌝ }
 {
     let mut low: usize = 0;
@@ -207,7 +213,7 @@ fn home(slots: usize, text: &[u8]) -> usize
 
 // A text is the name of the element at a place.
 fn is_name(xs: &[u8], place: usize, text: &[u8]) -> bool
-    requires { ⌜ place < length (now xs) ⌝ }
+    requires { ⌜ (place < length (now xs)) × WithoutZero (now text) ⌝ }
     ensures yes { λ r. ⌜ (r ≡ true → now (text .entry) ≡ textAt (now (xs .entry)) place) ⌝ }
     ensures no { λ r. ⌜ (r ≡ false → now (text .entry) ≡ textAt (now (xs .entry)) place → ⊥) ⌝ }
 {
@@ -221,7 +227,7 @@ fn is_name(xs: &[u8], place: usize, text: &[u8]) -> bool
 
 // Looks a text up in the slots from where it belongs.
 fn look(xs: &[u8], slots: &[u32], start: usize, text: &[u8]) -> Probe
-    requires { ⌜ ((j : ℕ) → getD (now slots) j 0 ≤ length (now xs)) × (start + reach ≤ length (now slots)) × (length (now xs) < 2 ^ 32) ⌝ }
+    requires { ⌜ ((j : ℕ) → getD (now slots) j 0 ≤ length (now xs)) × (start + reach ≤ length (now slots)) × (length (now xs) < 2 ^ 32) × WithoutZero (now text) ⌝ }
     ensures { λ r. ⌜ Probed (now (xs .entry)) (now (slots .entry)) (now (text .entry)) start r ⌝ }
 {
     let mut j = start;

@@ -1,19 +1,26 @@
--- `opmsg_name_tables::against` meets its contract.
+-- `opmsg_name_tables::against` meets its contract: a name stands behind its element's type.
 -- Assumes nothing.
-use lib.ListN.{length-take, length-drop}
-use native.Mathlib.Omega.{arith}
-use Rattle.wire.proofs.Parts.{rest-part}
+use Prim.Native.Nat.{_+_}
+use lib.Seq.{drop-drop}
 use borrow.Author.Needs.{needs}
+use Rattle.wire.proofs.Parts.{rest-part}
+use Rattle.opmsg_name_tables.specs.Inner.{nameText}
 use Rattle.opmsg_name_tables.proofs.against.Statement.{statement}
 use Rattle.opmsg_name_tables.proofs.against.Tie as tie
 
-name-requires : tie.Need-name-requires
-name-requires c κs = simp (length-take, length-drop) (omega arith)
-
 returns : tie.Need-returns
-returns c = rw (c .before .name .ensures, rest-part) at (c .compare .ensures)
+unfolding nameText
+returns c =
+    let a = c .before .before .before .before .args in
+    rw (drop-drop 1 (a .place) (a .xs .now)) (rw (rest-part (a .place + 1) (a .xs .now)) at (c .compare .ensures))
 
 pub against-spec : {M : Type 1} → statement M
 against-spec =
     tie.close
-    (tie.spec (λ c. search needs) (λ c. search needs) (λ c. search needs) name-requires (λ c κs. search needs) returns)
+    (tie.spec
+    (λ c. search needs)
+    (λ c. search needs)
+    (λ c. search needs)
+    (λ c. search needs)
+    (λ c κs. search needs)
+    returns)

@@ -9,6 +9,7 @@ use borrow.Author.Needs.{needs}
 use Rattle.bson_elements.specs.Element.{elementSize}
 use Rattle.wire.proofs.Parts.{rest-part}
 use Rattle.opmsg_name_tables.specs.Inner.{textAt, Between}
+use Rattle.opmsg_name_tables.proofs.Ordering.{name-without-zero}
 use Rattle.opmsg_name_tables.proofs.Blocks.{Filling, filling-none, filling-all, filling-size, filling-seen, filling-full, filling-more}
 use Rattle.opmsg_name_tables.proofs.block.Statement.{statement}
 use Rattle.opmsg_name_tables.proofs.block.Tie as tie
@@ -73,7 +74,7 @@ name-requires : tie.Need-name-requires Inv-loop μ-loop
 name-requires c κs = simp (length-take, length-drop) (omega (arith, c .before .before .before .loop .inv .opened .within))
 
 find-requires : tie.Need-find-requires Inv-loop μ-loop
-find-requires c κs = (c .before .before .before .before .loop .inv .sorted, c .before .before .before .before .before .before .before .pre .3)
+find-requires c κs = (c .before .before .before .before .loop .inv .sorted, c .before .before .before .before .before .before .before .pre .3, rw (c .name .ensures) (name-without-zero _))
 
 same-length : tie.Need-same-length Inv-loop μ-loop
 same-length c = L (c .before .before) .loop .inv .size-is

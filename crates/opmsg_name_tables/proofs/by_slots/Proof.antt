@@ -9,6 +9,7 @@ use borrow.Author.Needs.{needs}
 use Rattle.bson_elements.specs.Element.{elementSize}
 use Rattle.wire.proofs.Parts.{rest-part}
 use Rattle.opmsg_name_tables.specs.Inner.{textAt, homeOf, Free}
+use Rattle.opmsg_name_tables.proofs.Ordering.{name-without-zero}
 use Rattle.opmsg_name_tables.proofs.Slots.{home-small, Slotted, slotted-none, slotted-all, slotted-size, slotted-seen, slotted-more}
 use Rattle.opmsg_name_tables.proofs.by_slots.Statement.{statement}
 use Rattle.opmsg_name_tables.proofs.by_slots.Tie as tie
@@ -91,7 +92,7 @@ look-requires : tie.Need-look-requires Inv-loop μ-loop
 look-requires c κs =
     let l = c .before .before .before .before .before in
     let p = l .before .before .before .pre in
-    (l .loop .inv .inside, rw (c .before .home .ensures) (home-small _ _ (omega (arith, l .loop .inv .size-is, p .3))), p .1)
+    (l .loop .inv .inside, rw (c .before .home .ensures) (home-small _ _ (omega (arith, l .loop .inv .size-is, p .3))), p .1, rw (c .before .before .name .ensures) (name-without-zero _))
 
 same-length : tie.Need-same-length Inv-loop μ-loop
 same-length c = L (c .before .before) .loop .inv .size-is

@@ -38,7 +38,9 @@ cast-place c =
     omega (arith, s .0 .inside (middle (c .before)) (omega arith))
 
 against-requires : tie.Need-against-requires Inv-loop μ-loop
-against-requires c κs = c .before .before .before .before .before .before .pre .0 .inside (middle (c .before)) (omega arith)
+against-requires c κs =
+    let p = c .before .before .before .before .before .before .pre in
+    (p .0 .inside (middle (c .before)) (omega arith), p .2)
 
 loop-less : tie.Need-loop-less Inv-loop μ-loop
 loop-less c = omega arith

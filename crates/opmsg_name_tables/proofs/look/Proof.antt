@@ -41,7 +41,8 @@ sub-is-name c = omega arith
 is-name-requires : tie.Need-is-name-requires Inv-loop μ-loop
 is-name-requires c κs =
     let l = c .before .before .before in
-    omega (arith, l .before .before .before .before .pre .0 (l .loop .j))
+    let p = l .before .before .before .before .pre in
+    (omega (arith, p .0 (l .loop .j)), p .3)
 
 returns-2 : tie.Need-returns-2 Inv-loop μ-loop
 returns-2 c =
