@@ -12,8 +12,8 @@
 //! RELAY_CASES=100000 RELAY_SEED=2 cargo test --release --test names
 //! ```
 //!
-//! A message has at most 4,096 elements. Where names are kept in blocks of
-//! more, such as 8,192, no message reaches a second block.
+//! Names that crowd the library's slots are kept in blocks of 2,048, so that a
+//! message, which has at most 4,096 elements, reaches two of them.
 
 mod common;
 
@@ -208,6 +208,26 @@ fn two_equal_names_at_a_distance() {
     }
 }
 
+/// Names that are kept in blocks, at the border of two of them.
+#[test]
+fn two_equal_names_around_a_block() {
+    for family in [Family::OneSlot, Family::Falling, Family::Full] {
+        let names = family.names(2_100);
+        check(&names, None, family.words());
+        let borders = [0, 1, 2_046, 2_047, 2_048, 2_049, 2_099];
+        for (index, &later) in borders.iter().enumerate() {
+            for &earlier in &borders[..index] {
+                check_pair(&names, earlier, later, family.words());
+            }
+        }
+        // In both blocks; the first counts.
+        let mut several = names.clone();
+        several[2_060] = several[2_055].clone();
+        several[2_070] = several[3].clone();
+        check(&several, Some(2_060), family.words());
+    }
+}
+
 /// The last of as many names as fit is the first again, or for some families
 /// the one before it.
 #[test]
@@ -216,7 +236,7 @@ fn two_equal_names_among_the_most() {
         let names = family.names(family.most());
         let last = names.len() - 1;
         check_pair(&names, 0, last, family.words());
-        if let Family::Usual | Family::Falling | Family::Sixteen = family {
+        if let Family::Usual | Family::Falling | Family::Full = family {
             check_pair(&names, last - 1, last, family.words());
         }
     }

@@ -20,9 +20,9 @@ pub enum Family {
     OneSlot,
     /// The same in falling order.
     Falling,
-    /// Sixteen names in each slot of [`home`], and the last name is the
-    /// seventeenth of its slot; all are in falling order.
-    Sixteen,
+    /// Thirty-two names in each slot of [`home`], as many as are kept near
+    /// one, and the last name is one too many; all are in falling order.
+    Full,
     /// Names that differ in the last two of 12 bytes.
     Prefix,
     /// Names that differ in the last two of 48 bytes.
@@ -42,7 +42,7 @@ impl Family {
         Family::OneMark,
         Family::OneSlot,
         Family::Falling,
-        Family::Sixteen,
+        Family::Full,
         Family::Prefix,
         Family::LongPrefix,
         Family::Suffix,
@@ -56,7 +56,7 @@ impl Family {
             Family::OneMark => "one slot of the marks",
             Family::OneSlot => "one slot of both",
             Family::Falling => "one slot of both, falling",
-            Family::Sixteen => "sixteen to a slot, falling",
+            Family::Full => "full slots, falling",
             Family::Prefix => "common prefix, 12 bytes",
             Family::LongPrefix => "common prefix, 48 bytes",
             Family::Suffix => "common suffix, 12 bytes",
@@ -87,7 +87,7 @@ impl Family {
         }
     }
 
-    /// So many names, all different. Those of `Falling` and `Sixteen` are not
+    /// So many names, all different. Those of `Falling` and `Full` are not
     /// the first ones of more.
     pub fn names(self, count: usize) -> Vec<Vec<u8>> {
         assert!(count <= self.most());
@@ -98,7 +98,7 @@ impl Family {
                 names.reverse();
                 names
             }
-            Family::Sixteen => sixteen_to_a_slot(count),
+            Family::Full => full_slots(count),
             _ => (0..count).map(|index| self.name(index)).collect(),
         }
     }
@@ -150,28 +150,28 @@ fn of_one_mark(count: usize) -> Vec<Vec<u8>> {
     names
 }
 
-/// So many names in falling order, sixteen for each slot but for the last
+/// So many names in falling order, thirty-two for each slot but for the last
 /// name, whose slot is full.
-fn sixteen_to_a_slot(count: usize) -> Vec<Vec<u8>> {
+fn full_slots(count: usize) -> Vec<Vec<u8>> {
     let name = |which, group| -> [u8; 12] {
         let bytes = [b"part", &two(which)[..], &two(group), b"mber"].concat();
         bytes.try_into().expect("12 bytes")
     };
-    // Groups whose slots are sixteen apart, so that none fills another's.
+    // Groups whose slots are thirty-two apart, so that none fills another's.
     let mut groups: Vec<usize> = Vec::new();
     let mut group = 0;
-    while 16 * groups.len() + 1 < count {
+    while 32 * groups.len() + 1 < count {
         let slot = home(&name(0, group));
         if groups
             .iter()
-            .all(|&g| slot.abs_diff(home(&name(0, g))) >= 16)
+            .all(|&g| slot.abs_diff(home(&name(0, g))) >= 32)
         {
             groups.push(group);
         }
         group += 1;
     }
     let mut names = Vec::new();
-    for which in (1..=16).rev() {
+    for which in (1..=32).rev() {
         names.extend(groups.iter().rev().map(|&g| name(which, g).to_vec()));
     }
     names.truncate(count - 1);
@@ -191,10 +191,11 @@ fn mark(name: &[u8; 10]) -> u64 {
     (word(name, 0) + 3 * word(name, 6)) * 0x9E3_779B / 0x40_0000 % 2048
 }
 
-/// A slot of 16,368, made of the middle four bytes too.
+/// A slot of 8,192, made of the middle four bytes too, as the library makes
+/// it for its tables (`hash` and `home` in the crate opmsg_name_tables).
 fn home(name: &[u8; 12]) -> u64 {
     let sum = word(name, 0) + 3 * word(name, 8) + 5 * word(name, 6);
-    sum * 0x9E3_779B / 0x40_0000 % 16_368
+    sum * 0x9E3_779B / 0x40_0000 % 8_192
 }
 
 /// A message with a body of these names, each with a null.
