@@ -1,3 +1,4 @@
 pub mod Types
 pub mod Value
 pub mod Rows
+pub mod Behind

@@ -23,6 +23,7 @@ use Rattle.message.specs.Message.{checksum, message, wholeLength, Writte
 use Rattle.message.specs.Forward.{forwarded, forward}
 use Rattle.message.specs.Append.{sequenceBytes, appended, append}
 use Rattle.opmsg.specs.declared.Edition.{Edition}
+use Rattle.opmsg.specs.declared.Sequence.{Sequence}
 use Rattle.opmsg.specs.declared.View.{View}
 
 abbrev bodiesOnly : Edition
@@ -36,7 +37,9 @@ abbrev withD : List ℕ
 withD = set ping 0 48 ++ (1 ∷ 11 ∷ 0 ∷ 0 ∷ 0 ∷ 0x64 ∷ 0 ∷ 5 ∷ 0 ∷ 0 ∷ 0 ∷ 0 ∷ [])
 
 abbrev withDShown : View
-withDShown = record { length = 48; «request_id» = pos 7; «response_to» = pos 0; flags = 0; body = 21; «body_length» = 15; «sequence_count» = 1; sequences = set (replicate 16 noSequence) 0 (record { name = 41; «name_length» = 1; start = 43; end = 48; documents = 1 }); elements = 1 }
+withDShown =
+    let d : Sequence = record { name = 41; «name_length» = 1; start = 43; end = 48; documents = 1 } in
+    record { length = 48; «request_id» = pos 7; «response_to» = pos 0; flags = 0; body = 21; «body_length» = 15; «sequence_count» = 1; sequences = set (replicate 16 noSequence) 0 d; elements = 1 }
 
 -- a body with `ping` twice
 abbrev twice : List ℕ

@@ -30,9 +30,10 @@ module _ (e : Edition) (s : List ℕ) (v : View) (h : read e s ≡ ok v) (b : By
   before-end : take 16 s ++ (le32 (flagWord s) ++ sectionBytes s) ≡ take (sectionsEnd s) s
   unfolding sectionBytes
   before-end =
-      let q : sectionsEnd s ≡ 16 + (4 + (sectionsEnd s - 20)) = omega (arith, end-least) in
+      let n = sectionsEnd s - 20 in
+      let q : sectionsEnd s ≡ 16 + (4 + n) = omega (arith, end-least) in
       rw (word-bytes-at 16 (omega arith))
-      (sym (ap (λ (i : ℕ). take i s) q ∙ take-add 16 (4 + (sectionsEnd s - 20)) s ∙ ap (λ (l : List ℕ). take 16 s ++ l) (take-add 4 (sectionsEnd s - 20) (drop 16 s) ∙ ap (λ (l : List ℕ). take 4 (drop 16 s) ++ take (sectionsEnd s - 20) l) (drop-drop 4 16 s))))
+      (sym (ap (λ (i : ℕ). take i s) q ∙ take-add 16 (4 + n) s ∙ ap (λ (l : List ℕ). take 16 s ++ l) (take-add 4 n (drop 16 s) ∙ ap (λ (l : List ℕ). take 4 (drop 16 s) ++ take n l) (drop-drop 4 16 s))))
 
   with-checksum : (c : Bool) → checksummed (flagWord s) ≡ c → take (sectionsEnd s) s ++ checksum (flagWord s) (take (sectionsEnd s) s) ≡ take (messageLength s) s
   unfolding sectionsEnd wordAt

@@ -67,8 +67,10 @@ high-digits a m h = omega arith
 digits : (a b c d : ℕ) → a < 256 → b < 256 → c < 256 → d < 256 → le32 (a + 256 * b + 65536 * c + 16777216 * d) ≡ a ∷ b ∷ c ∷ d ∷ []
 unfolding le32
 digits a b c d p q r t =
-    let e : a + 256 * b + 65536 * c + 16777216 * d ≡ a + 256 * (b + 256 * (c + 256 * d)) = omega arith in
-    rw (e, ← div-div-eq-div-mul (a + 256 * (b + 256 * (c + 256 * d))) 65536 256, ← div-div-eq-div-mul (a + 256 * (b + 256 * (c + 256 * d))) 256 256, high-digits a (b + 256 * (c + 256 * d)) p, low-digit a (b + 256 * (c + 256 * d)) p, high-digits b (c + 256 * d) q, low-digit b (c + 256 * d) q, high-digits c d r, low-digit c d r, mod-eq-of-lt t)
+    let m = c + 256 * d in
+    let n = b + 256 * m in
+    let e : a + 256 * b + 65536 * c + 16777216 * d ≡ a + 256 * n = omega arith in
+    rw (e, ← div-div-eq-div-mul (a + 256 * n) 65536 256, ← div-div-eq-div-mul (a + 256 * n) 256 256, high-digits a n p, low-digit a n p, high-digits b m q, low-digit b m q, high-digits c d r, low-digit c d r, mod-eq-of-lt t)
 
 pub le32-word : (s : List ℕ) → Bytes s → 4 ≤ length s → le32 (word s) ≡ take 4 s
 unfolding word

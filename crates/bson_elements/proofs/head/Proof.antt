@@ -57,7 +57,8 @@ returns-5 c =
     let start = u .until-zero .result + 2 in
     let value = c .before .value-of .ensures in
     let rest : start + length (take (length xs - start) (drop start xs)) ≡ length xs = omega (arith, c .before .before .value-of-arg .given .2) in (
-      rw (head, lt-leb _ _ (f .if1 .left), ← b .kind-of .ensures at, k .kind .given .1, ← rest-part 1 xs, ← u .until-zero .ensures, lt-leb _ _ (b .before .if3 .left), ← rest-part start xs, ← value .0 (at + start)) (c .outline-of .ensures .0),
+      rw (head, lt-leb _ _ (f .if1 .left), ← b .kind-of .ensures at, k .kind .given .1, ← rest-part 1 xs, ← u .until-zero .ensures, lt-leb _ _ (b .before .if3 .left), ← rest-part start xs, ← value .0 (at + start))
+          (c .outline-of .ensures .0),
       rw rest at (c .outline-of .ensures .1 _ (omega arith) (value .1)),
     )
 

@@ -11,28 +11,13 @@ returns : tie.Need-returns
 unfolding binary _>>=_ refuse
 returns c = (λ v. rw (binary, lt-ltb _ _ (c .if1 .taken)), tt)
 
-word-requires : tie.Need-word-requires
-word-requires c κs = search needs
-
-under-requires : tie.Need-under-requires
-under-requires c κs = search needs
-
 returns-2 : tie.Need-returns-2
 unfolding binary _>>=_ refuse
 returns-2 c = (λ v. rw (binary, le-ltb _ _ (c .before .before .before .if1 .left), ← c .before .before .word .ensures, ← c .before .under .ensures, c .if2 .taken), tt)
 
-cast-n : tie.Need-cast-n
-cast-n c = search needs
-
-add-if3 : tie.Need-add-if3
-add-if3 c = search needs
-
 returns-3 : tie.Need-returns-3
 unfolding binary _>>=_ refuse
 returns-3 c = (λ v. rw (binary, le-ltb _ _ (c .before .before .before .before .if1 .left), ← c .before .before .before .word .ensures, ← c .before .before .under .ensures, c .before .if2 .left, lt-ltb _ _ (c .if3 .taken)), tt)
-
-add-t4 : tie.Need-add-t4
-add-t4 c = search needs
 
 returns-4 : tie.Need-returns-4
 unfolding binary _>>=_ refuse
@@ -43,11 +28,11 @@ binary-spec =
     tie.close
     (tie.spec
     returns
-    word-requires
-    under-requires
+    (λ c κs. search needs)
+    (λ c κs. search needs)
     returns-2
-    cast-n
-    add-if3
+    (λ c. search needs)
+    (λ c. search needs)
     returns-3
-    add-t4
+    (λ c. search needs)
     returns-4)

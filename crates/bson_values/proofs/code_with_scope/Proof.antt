@@ -1,85 +1,68 @@
 -- `bson_values::code_with_scope` meets its contract: each way out has its tests, and what the string is.
 -- Assumes nothing.
-use borrow.Author.Needs.{needs}
+use Prim.Native.Nat.{ℕ, _+_, _-_, _≤_}
+use mathlib.Core.Path.{refl, sym, _∙_}
+use mathlib.Core.List.{List, [], _∷_}
 use native.Mathlib.Omega.{arith}
-use mathlib.Core.Path.{sym, _∙_}
+use lib.ListN.{length, take, drop}
+use lib.Dec.{ltb}
+use borrow.Author.Needs.{needs}
 use borrow.Author.Tests.{lt-ltb, le-ltb}
-use Rattle.wire.specs.Outcome.{refuse, _>>=_}
-use Rattle.bson_values.specs.Value.{codeWithScope}
+use Rattle.wire.specs.Outcome.{ok, _>>=_}
+use Rattle.wire.specs.Bytes.{word, under}
 use Rattle.wire.proofs.Bytes.{under-false}
+use Rattle.wire.proofs.Checks.{Check, check, Past, first, next, Answers, answers}
+use Rattle.bson_values.specs.Value.{scoped, string, codeWithScope}
 use Rattle.bson_values.proofs.code_with_scope.Statement.{statement}
 use Rattle.bson_values.proofs.code_with_scope.Tie as tie
 
-returns : tie.Need-returns
-unfolding codeWithScope _>>=_ refuse
-returns c = (λ v. rw (codeWithScope, lt-ltb _ _ (c .if1 .taken)), tt)
+abbrev checks : ℕ → List ℕ → List Check
+checks v xs = check 19 v (ltb (length xs) 4) ∷ check 19 v (under 14 (word xs)) ∷ check 19 v (ltb (length xs) (word xs)) ∷ []
 
-word-requires : tie.Need-word-requires
-word-requires c κs = search needs
+counted : {v k : ℕ} (p : Past (checks v) k) → let t = word (p .given) in
+    Answers p (string v (take (t - 4) (drop 4 (p .given))) >>= λ n. ok (scoped (4 + n) t)) (codeWithScope v (p .given))
+unfolding codeWithScope
+counted p = answers p _
 
-under-requires : tie.Need-under-requires
-under-requires c κs = search needs
+abbrev past-1 : (v : ℕ) → tie.Else1 → Past (checks v) 1
+past-1 v c = next (first (c .before .before .args .s .now)) (le-ltb _ _ (c .if1 .left))
 
-returns-2 : tie.Need-returns-2
-unfolding codeWithScope _>>=_ refuse
-returns-2 c = (λ v. rw (codeWithScope, le-ltb _ _ (c .before .before .before .if1 .left), ← c .before .before .word .ensures, ← c .before .under .ensures, c .if2 .taken), tt)
+abbrev past-2 : (v : ℕ) → tie.Else2 → Past (checks v) 2
+past-2 v c = let u = c .before in next (past-1 v (u .before .before)) (rw (← u .before .word .ensures, ← u .under .ensures) (c .if2 .left))
 
-cast-t : tie.Need-cast-t
-cast-t c = search needs
+abbrev past-3 : (v : ℕ) → tie.Else3 → Past (checks v) 3
+past-3 v c = next (past-2 v (c .before)) (rw (← c .before .before .before .word .ensures) (le-ltb _ _ (c .if3 .left)))
 
-returns-3 : tie.Need-returns-3
-unfolding codeWithScope _>>=_ refuse
-returns-3 c = (λ v. rw (codeWithScope, le-ltb _ _ (c .before .before .before .before .if1 .left), ← c .before .before .before .word .ensures, ← c .before .before .under .ensures, c .before .if2 .left, lt-ltb _ _ (c .if3 .taken)), tt)
-
-sub-string : tie.Need-sub-string
-sub-string c = let b = c .before in omega (arith, under-false 14 (b .before .before .word .result) (sym (b .before .under .ensures) ∙ b .if2 .left))
-
-part-string-start : tie.Need-part-string-start
-part-string-start c = let b = c .before in omega (arith, under-false 14 (b .before .before .word .result) (sym (b .before .under .ensures) ∙ b .if2 .left))
-
-part-string-end : tie.Need-part-string-end
-part-string-end c = search needs
-
-string-requires : tie.Need-string-requires
-string-requires c κs = search needs
-
-enum-known-n : tie.Need-enum-known-n
-enum-known-n c = search needs
-
-enum-told : tie.Need-enum-told
-enum-told c = search needs
-
-returns-4 : tie.Need-returns-4
-unfolding codeWithScope _>>=_ refuse
-returns-4 c = (λ v. rw (codeWithScope, le-ltb _ _ (c .before .before .before .before .before .before .before .before .if1 .left), ← c .before .before .before .before .before .before .before .word .ensures, ← c .before .before .before .before .before .before .under .ensures, c .before .before .before .before .before .if2 .left, le-ltb _ _ (c .before .before .before .before .if3 .left), ← c .before .before .string .ensures .0 v, c .enum-told .given .1), tt)
-
-add-t5 : tie.Need-add-t5
-add-t5 c =
-    let b = c .before .before .before .before .before .before in
-    omega (arith, rw (c .before .n .given .1) at (c .before .before .before .string .ensures .1), c .before .before .before .before .string-arg .given .2, under-false 14 (b .before .before .word .result) (sym (b .before .under .ensures) ∙ b .if2 .left))
-
-returns-5 : tie.Need-returns-5
-unfolding codeWithScope _>>=_ refuse
-returns-5 c =
-    let b = c .before .before .before .before .before .before in
-    (λ v. rw (codeWithScope, le-ltb _ _ (c .before .before .before .before .before .before .before .before .before .if1 .left), ← c .before .before .before .before .before .before .before .before .word .ensures, ← c .before .before .before .before .before .before .before .under .ensures, c .before .before .before .before .before .before .if2 .left, le-ltb _ _ (c .before .before .before .before .before .if3 .left), ← c .before .before .before .string .ensures .0 v, c .before .n .given .1), omega (arith, rw (c .before .n .given .1) at (c .before .before .before .string .ensures .1), c .before .before .before .before .string-arg .given .2, under-false 14 (b .before .before .word .result) (sym (b .before .under .ensures) ∙ b .if2 .left)))
+least : (c : tie.Else3) → 14 ≤ c .before .before .before .word .result
+least c = let u = c .before .before in under-false 14 _ (sym (u .under .ensures) ∙ c .before .if2 .left) .0
 
 pub code-with-scope-spec : {M : Type 1} → statement M
+unfolding _>>=_
 code-with-scope-spec =
     tie.close
     (tie.spec
-    returns
-    word-requires
-    under-requires
-    returns-2
-    cast-t
-    returns-3
-    sub-string
-    part-string-start
-    part-string-end
-    string-requires
-    enum-known-n
-    enum-told
-    returns-4
-    add-t5
-    returns-5)
+    (λ c. (λ v. counted (first _) (lt-ltb _ _ (c .if1 .taken)), tt))
+    (λ c κs. search needs)
+    (λ c κs. search needs)
+    (λ c. let u = c .before in (λ v. counted (past-1 v (u .before .before)) (rw (← u .before .word .ensures, ← u .under .ensures) (c .if2 .taken)), tt))
+    (λ c. search needs)
+    (λ c. let p = c .before in (λ v. counted (past-2 v p) (rw (← p .before .before .word .ensures) (lt-ltb _ _ (c .if3 .taken))), tt))
+    (λ c. omega (arith, least c))
+    (λ c. omega (arith, least c))
+    (λ c. search needs)
+    (λ c κs. search needs)
+    (λ c. search needs)
+    (λ c. search needs)
+    (λ c.
+    let s = c .before .before in
+    let p = s .before .before in
+    (λ v. rw (← counted (past-3 v p) refl, ← p .before .before .before .word .ensures, ← s .string .ensures .0 v, c .enum-told .given .1), tt))
+    (λ c.
+    let s = c .before .before .before in
+    omega (arith, rw (c .before .n .given .1) at (s .string .ensures .1), s .before .string-arg .given .2, least (s .before .before)))
+    (λ c.
+    let s = c .before .before .before in
+    let p = s .before .before in (
+      λ v. rw (← counted (past-3 v p) refl, ← p .before .before .before .word .ensures, ← s .string .ensures .0 v, c .before .n .given .1),
+      omega (arith, rw (c .before .n .given .1) at (s .string .ensures .1), s .before .string-arg .given .2, least p),
+    )))

@@ -1,75 +1,45 @@
 -- `bson_values::pointer` meets its contract: each way out has what its two parts are.
 -- Assumes nothing.
-use borrow.Author.Needs.{needs}
+use Prim.Native.Nat.{ℕ, _+_, _≤_}
+use mathlib.Core.Path.{_≡_}
 use native.Mathlib.Omega.{arith}
-use Rattle.wire.specs.Outcome.{refuse, _>>=_}
-use Rattle.bson_values.specs.Value.{pointer}
-use Rattle.wire.proofs.Parts.{rest-part}
+use lib.ListN.{length}
+use borrow.Author.Needs.{needs}
+use Rattle.wire.specs.Outcome.{ok, _>>=_}
+use Rattle.bson_values.specs.Inner.{extent}
+use Rattle.bson_values.specs.Value.{string, sized, pointer}
+use Rattle.bson_values.proofs.Behind.{behind}
 use Rattle.bson_values.proofs.pointer.Statement.{statement}
 use Rattle.bson_values.proofs.pointer.Tie as tie
 
-string-requires : tie.Need-string-requires
-string-requires c κs = search needs
+-- the whole, by what the second part is, and how far both reach
+whole : (c : tie.After-sized) (v : ℕ) → let m = c .before .before .before in
+    (extent v (c .sized .result) >>= λ n. ok (m .m .given .0 .0 + n)) ≡ pointer v (m .before .before .before .before .args .s .now)
+unfolding pointer
+whole c = let m = c .before .before .before in behind string (λ v xs. sized v 12 xs) _ _ (c .sized .result) (m .before .before .string .ensures .0) (m .m .given .1) (c .sized .ensures .0)
 
-enum-known-m : tie.Need-enum-known-m
-enum-known-m c = search needs
-
-enum-told : tie.Need-enum-told
-enum-told c = search needs
-
-returns : tie.Need-returns
-unfolding pointer _>>=_ refuse
-returns c = (λ v. rw (pointer, ← c .before .before .string .ensures .0 v, c .enum-told .given .1), tt)
-
-sub-sized : tie.Need-sub-sized
-sub-sized c = rw (c .before .m .given .1) at (c .before .before .before .string .ensures .1)
-
-part-sized-start : tie.Need-part-sized-start
-part-sized-start c = rw (c .before .m .given .1) at (c .before .before .before .string .ensures .1)
-
-part-sized-end : tie.Need-part-sized-end
-part-sized-end c = search needs
-
-sized-requires : tie.Need-sized-requires
-sized-requires c κs = search needs
-
-enum-known-n : tie.Need-enum-known-n
-enum-known-n c = search needs
-
-enum-told-2 : tie.Need-enum-told-2
-enum-told-2 c = search needs
-
-returns-2 : tie.Need-returns-2
-unfolding pointer _>>=_ refuse
-returns-2 c =
-    let b = c .before .before .before .before .before in
-    (λ v. rw (pointer, ← b .before .before .string .ensures .0 v, b .m .given .1, ← rest-part (b .m .given .0 .0) (b .before .before .before .before .args .s .now), ← c .before .before .sized .ensures .0 v, c .enum-told2 .given .1), tt)
-
-add-t7 : tie.Need-add-t7
-add-t7 c =
-    let b = c .before .before .before .before .before .before in
-    omega (arith, rw (b .m .given .1) at (b .before .before .string .ensures .1), rw (c .before .n .given .1) at (c .before .before .before .sized .ensures .1), c .before .before .before .before .sized-arg .given .2)
-
-returns-3 : tie.Need-returns-3
-unfolding pointer _>>=_ refuse
-returns-3 c =
-    let b = c .before .before .before .before .before .before in
-    (λ v. rw (pointer, ← b .before .before .string .ensures .0 v, b .m .given .1, ← rest-part (b .m .given .0 .0) (b .before .before .before .before .args .s .now), ← c .before .before .before .sized .ensures .0 v, c .before .n .given .1), omega (arith, rw (b .m .given .1) at (b .before .before .string .ensures .1), rw (c .before .n .given .1) at (c .before .before .before .sized .ensures .1), c .before .before .before .before .sized-arg .given .2))
+within : (c : tie.After-known-told2) → let m = c .before .before .before .before .before .before in
+    m .m .given .0 .0 + c .before .n .given .0 .0 ≤ length (m .before .before .before .before .args .s .now)
+within c =
+    let s = c .before .before .before in
+    let m = s .before .before .before in
+    omega (arith, rw (m .m .given .1) at (m .before .before .string .ensures .1), rw (c .before .n .given .1) at (s .sized .ensures .1), s .before .sized-arg .given .2)
 
 pub pointer-spec : {M : Type 1} → statement M
+unfolding pointer _>>=_
 pointer-spec =
     tie.close
     (tie.spec
-    string-requires
-    enum-known-m
-    enum-told
-    returns
-    sub-sized
-    part-sized-start
-    part-sized-end
-    sized-requires
-    enum-known-n
-    enum-told-2
-    returns-2
-    add-t7
-    returns-3)
+    (λ c κs. search needs)
+    (λ c. search needs)
+    (λ c. search needs)
+    (λ c. (λ v. rw (pointer, ← c .before .before .string .ensures .0 v, c .enum-told .given .1), tt))
+    (λ c. rw (c .before .m .given .1) at (c .before .before .before .string .ensures .1))
+    (λ c. rw (c .before .m .given .1) at (c .before .before .before .string .ensures .1))
+    (λ c. search needs)
+    (λ c κs. search needs)
+    (λ c. search needs)
+    (λ c. search needs)
+    (λ c. (λ v. rw (c .enum-told2 .given .1) at (whole (c .before .before) v), tt))
+    (λ c. omega (arith, within c))
+    (λ c. (λ v. rw (c .before .n .given .1) at (whole (c .before .before .before) v), within c)))

@@ -19,43 +19,13 @@ abbrev μ-loop : tie.MeasureT-loop
 loop-holds : tie.Need-loop-holds Inv-loop μ-loop
 loop-holds c = (omega arith, refl)
 
-sub-loop : tie.Need-sub-loop Inv-loop μ-loop
-sub-loop c = omega arith
-
-add-e : tie.Need-add-e Inv-loop μ-loop
-add-e c = omega arith
-
-sub-sixteen : tie.Need-sub-sixteen Inv-loop μ-loop
-sub-sixteen c = omega arith
-
-part-sixteen-start : tie.Need-part-sixteen-start Inv-loop μ-loop
-part-sixteen-start c = omega arith
-
-part-sixteen-end : tie.Need-part-sixteen-end Inv-loop μ-loop
-part-sixteen-end c = omega arith
-
 sixteen-requires : tie.Need-sixteen-requires Inv-loop μ-loop
 sixteen-requires c κs = simp (length-take, length-drop) (omega arith)
-
-loop-less : tie.Need-loop-less Inv-loop μ-loop
-loop-less c = omega arith
 
 loop-again : tie.Need-loop-again Inv-loop μ-loop
 loop-again c =
     let l = c .before .before .before .loop in
     (omega arith, register-part (l .r) _ _ (l .i) (l .i + 16) (omega arith) (c .sixteen .ensures) ∙ l .inv .1)
-
-sub-bytes : tie.Need-sub-bytes Inv-loop μ-loop
-sub-bytes c = omega arith
-
-part-bytes-start : tie.Need-part-bytes-start Inv-loop μ-loop
-part-bytes-start c = omega arith
-
-part-bytes-end : tie.Need-part-bytes-end Inv-loop μ-loop
-part-bytes-end c = omega arith
-
-bytes-requires : tie.Need-bytes-requires Inv-loop μ-loop
-bytes-requires c κs = search needs
 
 returns : tie.Need-returns Inv-loop μ-loop
 returns c =
@@ -69,16 +39,16 @@ update-spec =
     Inv-loop
     μ-loop
     loop-holds
-    sub-loop
-    add-e
-    sub-sixteen
-    part-sixteen-start
-    part-sixteen-end
+    (λ c. omega arith)
+    (λ c. omega arith)
+    (λ c. omega arith)
+    (λ c. omega arith)
+    (λ c. omega arith)
     sixteen-requires
-    loop-less
+    (λ c. omega arith)
     loop-again
-    sub-bytes
-    part-bytes-start
-    part-bytes-end
-    bytes-requires
+    (λ c. omega arith)
+    (λ c. omega arith)
+    (λ c. omega arith)
+    (λ c κs. search needs)
     returns)

@@ -1,9 +1,11 @@
 -- `message_append_checks::examine` meets its contract: the checks behind reading, the documents, and then the names.
 -- Assumes nothing.
-use Prim.Native.Nat.{_-_}
+use Prim.Native.Nat.{_+_, _-_, _≤_}
 use mathlib.Core.Path.{sym, ap, _∙_}
 use native.Mathlib.Omega.{arith}
+use lib.ListN.{length}
 use borrow.Author.Needs.{needs}
+use Rattle.opmsg.specs.Layout.{maxLength}
 use Rattle.opmsg.specs.Sections.{maxSequences}
 use Rattle.opmsg.specs.Inner.{judged}
 use Rattle.opmsg.proofs.Limits.{maxLength-small}
@@ -14,9 +16,6 @@ use Rattle.message_append_checks.proofs.Answers.{checksum-within, check
 use Rattle.message_append_checks.proofs.examine.Statement.{statement}
 use Rattle.message_append_checks.proofs.examine.Tie as tie
 
-sub-end : tie.Need-sub-end
-sub-end c = omega (arith, c .before .checksum-size .ensures, checksum-within _ _ _ (c .before .before .before .before .before .pre))
-
 returns : tie.Need-returns
 returns c =
     let p3 = c .before .before .before in
@@ -24,15 +23,8 @@ returns c =
     let p9 = p5 .before .before .before .before in
     checks-refuse _ _ _ (p9 .pre) _ (p5 .checksum-size .ensures) (p9 .args .identifier .now) (p9 .args .documents .now) (p9 .args .room) (sym (p3 .between-readings .ensures) ∙ ap judged (c .before .passed .given .1))
 
-cast-documents : tie.Need-cast-documents
-cast-documents c =
-    let a = allows _ _ _ _ _ _ (sym (c .before .before .between-readings .ensures) ∙ ap judged (c .enum-told .given .1)) in
-    omega (arith, a .limit, maxLength-small)
-
-documents-requires : tie.Need-documents-requires
-documents-requires c κs =
-    let a = allows _ _ _ _ _ _ (sym (c .before .before .between-readings .ensures) ∙ ap judged (c .enum-told .given .1)) in
-    omega (arith, a .limit, maxLength-small)
+limit : (c : tie.After-enum-told) → let a = c .before .before .before .before .before .before .before .before .args in a .v .length + (length (a .identifier .now) + 6 + length (a .documents .now)) ≤ maxLength
+limit c = allows _ _ _ _ _ _ (sym (c .before .before .between-readings .ensures) ∙ ap judged (c .enum-told .given .1)) .limit
 
 -- the checks are passed and the documents are counted: only names are left to check
 ready : (q : tie.After-number) →
@@ -46,7 +38,8 @@ ready q =
     let k = t .before .before in
     let m = k .before .before in
     let a = m .before .before .before .before in
-    documents-ready _ _ _ (a .pre) _ (m .checksum-size .ensures) (a .args .identifier .now) (a .args .documents .now) (a .args .room) (sym (k .between-readings .ensures) ∙ ap judged (t .enum-told .given .1)) (sym (d .documents .ensures _ (omega arith)) ∙ ap toldRun (q .number .given .1))
+    documents-ready _ _ _ (a .pre) _ (m .checksum-size .ensures) (a .args .identifier .now) (a .args .documents .now) (a .args .room)
+    (sym (k .between-readings .ensures) ∙ ap judged (t .enum-told .given .1)) (sym (d .documents .ensures _ (omega arith)) ∙ ap toldRun (q .number .given .1))
 
 repeated-requires : tie.Need-repeated-requires
 unfolding maxSequences
@@ -69,14 +62,15 @@ returns-4 c =
     let p6 = p4 .before .before in
     let p8 = p6 .before .before in
     let p12 = p8 .before .before .before .before in
-    documents-refuse _ _ _ (p12 .pre) _ (p8 .checksum-size .ensures) (p12 .args .identifier .now) (p12 .args .documents .now) (p12 .args .room) (sym (p6 .between-readings .ensures) ∙ ap judged (p4 .enum-told .given .1)) (sym (p3 .documents .ensures _ (omega arith)) ∙ ap toldRun (c .before .number2 .given .1))
+    documents-refuse _ _ _ (p12 .pre) _ (p8 .checksum-size .ensures) (p12 .args .identifier .now) (p12 .args .documents .now) (p12 .args .room)
+    (sym (p6 .between-readings .ensures) ∙ ap judged (p4 .enum-told .given .1)) (sym (p3 .documents .ensures _ (omega arith)) ∙ ap toldRun (c .before .number2 .given .1))
 
 pub examine-spec : {M : Type 1} → statement M
 examine-spec =
     tie.close
     (tie.spec
     (λ c κs. search needs)
-    sub-end
+    (λ c. omega (arith, c .before .checksum-size .ensures, checksum-within _ _ _ (c .before .before .before .before .before .pre)))
     (λ c. search needs)
     (λ c κs. search needs)
     (λ c. search needs)
@@ -84,8 +78,8 @@ examine-spec =
     (λ c. search needs)
     (λ c. search needs)
     (λ c. search needs)
-    cast-documents
-    documents-requires
+    (λ c. omega (arith, limit c, maxLength-small))
+    (λ c κs. omega (arith, limit c, maxLength-small))
     (λ c. search needs)
     repeated-requires
     (λ c. search needs)

@@ -15,7 +15,8 @@ returns c =
     let p24 = p19 .before .before .before .before .before in
     let p25 = p24 .before in
     let p31 = p25 .before .before .before .before .before .before in
-    message-stored _ _ _ _ _ _ (p31 .pre .0) (p31 .pre .1) (p31 .pre .2) (rw (← p25 .checksum-size .ensures) (p24 .put-word .ensures)) (p19 .put .ensures) (p15 .put-word2 .ensures) (p10 .put2 .ensures) (p6 .section .ensures) (p2 .seal .ensures)
+    message-stored _ _ _ _ _ _ (p31 .pre .0) (p31 .pre .1) (p31 .pre .2) (rw (← p25 .checksum-size .ensures) (p24 .put-word .ensures)) (p19 .put .ensures)
+    (p15 .put-word2 .ensures) (p10 .put2 .ensures) (p6 .section .ensures) (p2 .seal .ensures)
 
 pub appended-spec : {M : Type 1} → statement M
 appended-spec =

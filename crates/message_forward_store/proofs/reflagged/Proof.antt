@@ -8,9 +8,6 @@ use Rattle.message_forward_store.proofs.Forwards.{shown-bounds, forward
 use Rattle.message_forward_store.proofs.reflagged.Statement.{statement}
 use Rattle.message_forward_store.proofs.reflagged.Tie as tie
 
-sub-end : tie.Need-sub-end
-sub-end c = omega (arith, shown-bounds _ _ _ (c .before .before .before .pre .0), c .checksum-size .ensures)
-
 slice-aggregate-put : tie.Need-slice-aggregate-put
 slice-aggregate-put c =
     let a = c .before .before .before .before .before in
@@ -42,7 +39,7 @@ reflagged-spec =
     (tie.spec
     (λ c κs. search needs)
     (λ c. search needs)
-    sub-end
+    (λ c. omega (arith, shown-bounds _ _ _ (c .before .before .before .pre .0), c .checksum-size .ensures))
     slice-aggregate-put
     (λ c κs. search needs)
     (λ c κs. search needs)

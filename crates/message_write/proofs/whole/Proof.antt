@@ -6,9 +6,6 @@ use Rattle.opmsg.proofs.Limits.{checksum-small}
 use Rattle.message_write.proofs.whole.Statement.{statement}
 use Rattle.message_write.proofs.whole.Tie as tie
 
-add-result-2 : tie.Need-add-result-2
-add-result-2 c = omega (arith, c .checksum-size .ensures, checksum-small (c .before .args .flags))
-
 pub whole-spec : {M : Type 1} → statement M
 whole-spec =
     tie.close
@@ -16,5 +13,5 @@ whole-spec =
     (λ c. search needs)
     (λ c. search needs)
     (λ c κs. search needs)
-    add-result-2
+    (λ c. omega (arith, c .checksum-size .ensures, checksum-small (c .before .args .flags)))
     (λ c. search needs))

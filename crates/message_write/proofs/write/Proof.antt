@@ -43,9 +43,6 @@ written-requires c κs =
     let p2 = c .before .before in
     (omega (arith, p2 .whole .ensures), omega (arith, p2 .whole .ensures, fit (c .before .before .before .before .before .before .before) .holds))
 
-refusal-requires-2 : tie.Need-refusal-requires-2
-refusal-requires-2 c κs = search needs
-
 returns-2 : tie.Need-returns-2
 unfolding viewed output _>>=_ answer wholeLength
 returns-2 c =
@@ -58,7 +55,9 @@ returns-2 c =
     let i = toZ-ofZ (p15 .fits .request-id) in
     let j = toZ-ofZ (p15 .fits .response-to) in
     let n : p5 .whole .result ≡ wholeLength (p15 .args .flags) (0 ∷ p15 .args .body .now) = omega (arith, p5 .whole .ensures) in
-    rw (write-accepted (p15 .args .e) (p15 .args .request-id) (p15 .args .response-to) (p15 .args .flags) (p15 .args .body .now) _ (fit (c .before .before .before .before .before .before .before .before .before .before)) (p15 .fits .flags .fits) (p15 .fits .request-id) (p15 .fits .response-to) (sym (p9 .examine-body .ensures) ∙ ap told (p7 .count .given .1)))
+    let a = p15 .args in
+    let f = p15 .fits in
+    rw (write-accepted (a .e) (a .request-id) (a .response-to) (a .flags) (a .body .now) _ (fit (p9 .before)) (f .flags .fits) (f .request-id) (f .response-to) (sym (p9 .examine-body .ensures) ∙ ap told (p7 .count .given .1)))
     (rw (p4 .view .ensures, i, j, n), rw (i, j) at (p2 .written .ensures))
 
 returns-3 : tie.Need-returns-3
@@ -67,7 +66,8 @@ returns-3 c =
     let p2 = c .before .before in
     let p4 = p2 .before .before in
     let p10 = p4 .before .before .before .before .before .before in
-    rw (c .refusal2 .ensures, write-refused (p10 .args .e) (p10 .args .request-id) (p10 .args .response-to) (p10 .args .flags) (p10 .args .body .now) _ (fit (c .before .before .before .before .before)) (p10 .fits .flags .fits) (sym (p4 .examine-body .ensures) ∙ ap told (p2 .number .given .1))) (refl, refl)
+    let a = p10 .args in
+    rw (c .refusal2 .ensures, write-refused (a .e) (a .request-id) (a .response-to) (a .flags) (a .body .now) _ (fit (p4 .before)) (p10 .fits .flags .fits) (sym (p4 .examine-body .ensures) ∙ ap told (p2 .number .given .1))) (refl, refl)
 
 pub write-spec : {M : Type 1} → statement M
 write-spec =
@@ -85,7 +85,7 @@ write-spec =
     (λ c κs. search needs)
     written-requires
     (λ c. search needs)
-    refusal-requires-2
+    (λ c κs. search needs)
     (λ c. search needs)
     returns-2
     returns-3)

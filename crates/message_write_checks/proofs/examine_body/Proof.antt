@@ -20,18 +20,6 @@ returns c =
 framed : (c : tie.After-known-told) → Framed (c .before .before .before .before .before .args .body .now) (c .before .w .given .0 .0)
 framed c = let p3 = c .before .before .before in past-framed 21 (p3 .before .before .args .body .now) 0 (p3 .document .result) (p3 .document .ensures) (c .before .w .given .1)
 
-sub-last : tie.Need-sub-last
-sub-last c = omega (arith, framed c .low)
-
-sub-body-names : tie.Need-sub-body-names
-sub-body-names c = omega (arith, framed c .low)
-
-part-body-names-start : tie.Need-part-body-names-start
-part-body-names-start c = omega (arith, framed c .low)
-
-part-body-names-end : tie.Need-part-body-names-end
-part-body-names-end c = omega (arith, framed c .fits)
-
 body-names-requires : tie.Need-body-names-requires
 body-names-requires c κs =
     let p3 = c .before .before .before in
@@ -62,10 +50,10 @@ examine-body-spec =
     (λ c. search needs)
     (λ c. search needs)
     returns
-    sub-last
-    sub-body-names
-    part-body-names-start
-    part-body-names-end
+    (λ c. omega (arith, framed c .low))
+    (λ c. omega (arith, framed c .low))
+    (λ c. omega (arith, framed c .low))
+    (λ c. omega (arith, framed c .fits))
     body-names-requires
     (λ c. search needs)
     returns-2

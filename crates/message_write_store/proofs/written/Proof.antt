@@ -36,11 +36,13 @@ returns c =
     let p32 = p28 .before .before .before .before in
     let i = p24 .bits32 .ensures ∙ ap bits32 (toZ-ofZ (p32 .fits .request-id)) in
     let j = p19 .bits322 .ensures ∙ ap bits32 (toZ-ofZ (p32 .fits .response-to)) in
-    laid _ _ _ _ _ _ _ _ _ _ (rw (p32 .pre .0) at (p32 .pre .1)) (rw (p32 .pre .0) at (p28 .put-word .ensures)) (rw i at (p23 .put-word2 .ensures)) (rw j at (p18 .put-word3 .ensures)) (p14 .put-word4 .ensures) (p10 .put-word5 .ensures) (p6 .put .ensures) (p2 .seal .ensures)
+    laid _ _ _ _ _ _ _ _ _ _ (rw (p32 .pre .0) at (p32 .pre .1)) (rw (p32 .pre .0) at (p28 .put-word .ensures)) (rw i at (p23 .put-word2 .ensures)) (rw j at (p18 .put-word3 .ensures))
+    (p14 .put-word4 .ensures) (p10 .put-word5 .ensures) (p6 .put .ensures) (p2 .seal .ensures)
 
 same-length : tie.Need-same-length
 same-length c =
-    let p32 = c .before .before .before .before .before .before .before .before .before .before .before .before .before .before .before .before .before .before .before .before .before .before .before .before .before .before .before .before .before .before .before .before in
+    let p16 = c .before .before .before .before .before .before .before .before .before .before .before .before .before .before .before .before in
+    let p32 = p16 .before .before .before .before .before .before .before .before .before .before .before .before .before .before .before .before in
     laid-length _ _ _ _ _ _ (rw (p32 .pre .0) at (p32 .pre .1)) (returns c)
 
 pub written-spec : {M : Type 1} → statement M

@@ -54,9 +54,6 @@ add-i c =
     let r = reached-next _ _ _ (p6 .before .loop .inv .reached) (p6 .loop-test .taken) _ (size-is c) in
     omega (arith, r .1 .within)
 
-sub-left : tie.Need-sub-left Inv-loop μ-loop
-sub-left c = omega arith
-
 loop-less : tie.Need-loop-less Inv-loop μ-loop
 loop-less c =
     let p6 = c .before .before .before .before .before .before in
@@ -93,7 +90,7 @@ named-spec =
     returns-2
     (λ c κs. search needs)
     add-i
-    sub-left
+    (λ c. omega arith)
     loop-less
     loop-again
     returns-3)

@@ -28,9 +28,6 @@ returns-2 c =
     let p6 = p4 .before .before in
     sym (p4 .loop .inv .1 ∙ same-other (p6 .args .a .now) (p6 .args .b .now) (p4 .loop .i) (omega arith) (omega arith) (c .if2 .taken))
 
-loop-less : tie.Need-loop-less Inv-loop μ-loop
-loop-less c = omega arith
-
 loop-again : tie.Need-loop-again Inv-loop μ-loop
 loop-again c =
     let p4 = c .before .before .before .before in
@@ -54,6 +51,6 @@ same-spec =
     (λ c. search needs)
     returns-2
     (λ c. search needs)
-    loop-less
+    (λ c. omega arith)
     loop-again
     returns-3)

@@ -22,32 +22,8 @@ Inv-loop s at count i₀ number₀ elements₀ end i number elements =
 abbrev μ-loop : tie.MeasureT-loop
 μ-loop s at count i₀ number₀ elements₀ end i number elements = length s - i
 
-cast-end : tie.Need-cast-end Inv-loop μ-loop
-cast-end c = omega arith
-
 loop-holds : tie.Need-loop-holds Inv-loop μ-loop
 loop-holds c = (length (c .before .args .s .now), omega arith, omega arith, omega arith, rw (add-zero (c .before .args .at), rest-part 0 (c .before .args .s .now)))
-
-cast-from : tie.Need-cast-from Inv-loop μ-loop
-cast-from c = omega arith
-
-sub-document : tie.Need-sub-document Inv-loop μ-loop
-sub-document c = omega arith
-
-part-document-start : tie.Need-part-document-start Inv-loop μ-loop
-part-document-start c = omega arith
-
-part-document-end : tie.Need-part-document-end Inv-loop μ-loop
-part-document-end c = omega arith
-
-add-document : tie.Need-add-document Inv-loop μ-loop
-add-document c = omega arith
-
-document-requires : tie.Need-document-requires Inv-loop μ-loop
-document-requires c κs = search needs
-
-enum-known-w : tie.Need-enum-known-w Inv-loop μ-loop
-enum-known-w c = search needs
 
 cast-i : tie.Need-cast-i Inv-loop μ-loop
 cast-i c =
@@ -60,9 +36,6 @@ add-i c =
     let p3 = c .before .before .before in
     let f = past-framed _ _ _ _ (p3 .document .ensures) (c .before .w .given .1) in
     omega (arith, f .fits, p3 .before .document-arg .given .2)
-
-add-number : tie.Need-add-number Inv-loop μ-loop
-add-number c = omega arith
 
 loop-less : tie.Need-loop-less Inv-loop μ-loop
 loop-less c =
@@ -82,11 +55,9 @@ loop-again c =
       omega (arith, f .fits, p4 .document-arg .given .2),
       omega (arith, f .low),
       omega (arith, f .low),
-      inv .4 ∙ goes-on nextDocument (p8 .args .at) (length (p8 .args .s .now)) (p6 .loop .i) (p8 .args .s .now) _ (p5 .loop-test .taken) (omega arith) (inv .0) (inv .2) _ _ (next-past _ _ _ _ (p3 .document .ensures) (p6 .loop .number) (c .before .w .given .1)),
+      inv .4 ∙ goes-on nextDocument (p8 .args .at) (length (p8 .args .s .now)) (p6 .loop .i) (p8 .args .s .now) _ (p5 .loop-test .taken) (omega arith) (inv .0) (inv .2) _ _
+          (next-past _ _ _ _ (p3 .document .ensures) (p6 .loop .number) (c .before .w .given .1)),
     )
-
-enum-known-w-2 : tie.Need-enum-known-w-2 Inv-loop μ-loop
-enum-known-w-2 c = search needs
 
 returns : tie.Need-returns Inv-loop μ-loop
 returns c =
@@ -97,7 +68,8 @@ returns c =
     λ turns l.
     let inv = p6 .loop .inv in
     sym (run-turns turns (length (p8 .args .s .now)) _ _ _ l (omega arith)
-    ∙ inv .4 ∙ stops nextDocument (p8 .args .at) (length (p8 .args .s .now)) (p6 .loop .i) (p8 .args .s .now) _ (p5 .loop-test .taken) (omega arith) (inv .0) (inv .2) (next-refused _ _ _ _ (p3 .document .ensures) (p6 .loop .number) (c .before .w2 .given .1)))
+    ∙ inv .4 ∙ stops nextDocument (p8 .args .at) (length (p8 .args .s .now)) (p6 .loop .i) (p8 .args .s .now) _ (p5 .loop-test .taken) (omega arith) (inv .0) (inv .2)
+    (next-refused _ _ _ _ (p3 .document .ensures) (p6 .loop .number) (c .before .w2 .given .1)))
 
 returns-2 : tie.Need-returns-2 Inv-loop μ-loop
 returns-2 c =
@@ -113,20 +85,20 @@ documents-spec =
     (tie.spec
     Inv-loop
     μ-loop
-    cast-end
+    (λ c. omega arith)
     loop-holds
-    cast-from
-    sub-document
-    part-document-start
-    part-document-end
-    add-document
-    document-requires
-    enum-known-w
+    (λ c. omega arith)
+    (λ c. omega arith)
+    (λ c. omega arith)
+    (λ c. omega arith)
+    (λ c. omega arith)
+    (λ c κs. search needs)
+    (λ c. search needs)
     cast-i
     add-i
-    add-number
+    (λ c. omega arith)
     loop-less
     loop-again
-    enum-known-w-2
+    (λ c. search needs)
     returns
     returns-2)

@@ -1,80 +1,63 @@
 -- `opmsg_flag_checks::flagged` meets its contract: each way out has its tests.
 -- Assumes nothing.
-use mathlib.Core.Path.{ap, _∙_}
+use Prim.Native.Nat.{ℕ, _+_, _-_, _≤_}
+use mathlib.Core.Bool.{not}
+use mathlib.Core.Path.{_≡_, refl}
+use mathlib.Core.List.{List, [], _∷_}
 use native.Mathlib.Omega.{arith}
+use lib.ListN.{length, drop}
+use lib.Dec.{ltb}
 use borrow.Author.Needs.{needs}
-use borrow.Author.Tests.{lt-ltb, le-ltb, not-true, not-false}
-use Rattle.wire.specs.Outcome.{refuse, _>>=_}
+use borrow.Author.Tests.{lt-ltb, le-ltb}
+use Rattle.wire.specs.Outcome.{ok}
 use Rattle.wire.specs.Bytes.{word, wordAt}
+use Rattle.wire.proofs.Checks.{Check, check, Past, first, next, Answers, answers-alone}
 use Rattle.wire.proofs.Parts.{rest-part}
+use Rattle.opmsg.specs.Flags.{allKnown}
+use Rattle.opmsg.specs.Layout.{checksumSize, checksumDiffers}
 use Rattle.opmsg.specs.Read.{flagged}
 use Rattle.opmsg.proofs.Limits.{checksum-small}
 use Rattle.opmsg_flag_checks.proofs.flagged.Statement.{statement}
 use Rattle.opmsg_flag_checks.proofs.flagged.Tie as tie
 
-returns : tie.Need-returns
-unfolding flagged _>>=_ refuse wordAt
-returns c = rw (c .refused .ensures, flagged, wordAt, ← c .before .before .word .ensures, lt-ltb _ _ (c .before .if1 .taken))
+abbrev checks : tie.Start → List Check
+checks c =
+    let s = c .args .s .now in
+    let n = word s in
+    let flags = word (drop 16 s) in
+    check 7 16 (ltb n 20)
+    ∷ check 8 16 (not (allKnown 16 (c .args .e .bits) flags))
+    ∷ check 7 16 (ltb n (20 + checksumSize flags))
+    ∷ check 9 (n - 4) (checksumDiffers s)
+    ∷ []
 
-sub-word : tie.Need-sub-word
+answers : {k : ℕ} (p : Past checks k) → Answers p (ok tt) (flagged (p .given .args .e) (p .given .args .s .now))
+unfolding flagged wordAt
+answers p = answers-alone p
+
+-- what the code reads: the length, which the slice holds, the flag word, and whether the checksum differs
+fits : (c : tie.After-word) → c .word .result ≤ length (c .before .before .args .s .now)
 unfolding wordAt
-sub-word c = omega (arith, c .before .word .ensures, c .before .before .before .pre)
+fits c = omega (arith, c .word .ensures, c .before .before .pre)
 
-returns-2 : tie.Need-returns-2
-unfolding flagged _>>=_ refuse wordAt
-returns-2 c =
-    let p2 = c .before .before in
-    let p3 = p2 .before in
-    let p5 = p3 .before .before in
-    let p6 = p5 .before in
-    rw (c .refused2 .ensures, flagged, wordAt, ← p6 .word .ensures, le-ltb _ _ (p5 .if1 .left), ← rest-part 16 (p6 .before .before .args .s .now), ← p3 .word2 .ensures, ← p2 .required-known .ensures, not-true (p2 .required-known .result) (c .before .if2 .taken))
+flags : (c : tie.After-word2) → c .word2 .result ≡ word (drop 16 (c .before .before .before .before .before .args .s .now))
+flags c = rw rest-part at (c .word2 .ensures)
 
-add-if3 : tie.Need-add-if3
-add-if3 c = omega (arith, checksum-small (c .before .before .before .word2 .result), c .checksum-size .ensures)
+abbrev past-1 : tie.Else1 → Past checks 1
+past-1 c = next (first (c .before .before .before)) (rw (← c .before .word .ensures) (le-ltb _ _ (c .if1 .left)))
 
-returns-3 : tie.Need-returns-3
-unfolding flagged _>>=_ refuse wordAt
-returns-3 c =
-    let p2 = c .before .before in
-    let p3 = p2 .before in
-    let p4 = p3 .before in
-    let p5 = p4 .before in
-    let p7 = p5 .before .before in
-    let p8 = p7 .before in
-    rw (c .refused3 .ensures, flagged, wordAt, ← p8 .word .ensures, le-ltb _ _ (p7 .if1 .left), ← rest-part 16 (p8 .before .before .args .s .now), ← p5 .word2 .ensures, ← p4 .required-known .ensures, not-false (p4 .required-known .result) (p3 .if2 .left), ← p2 .checksum-size .ensures, lt-ltb _ _ (c .before .if3 .taken))
+abbrev past-2 : tie.Else2 → Past checks 2
+past-2 c = let k = c .before in next (past-1 (k .before .before .before)) (rw (← flags (k .before), ← k .required-known .ensures) (c .if2 .left))
 
-checksum-differs-requires : tie.Need-checksum-differs-requires
+abbrev past-3 : tie.Else3 → Past checks 3
+past-3 c =
+    let p = c .before .before in
+    let w = p .before .before in
+    next (past-2 p) (rw (← flags w, ← c .before .checksum-size .ensures, ← w .before .before .before .word .ensures) (le-ltb _ _ (c .if3 .left)))
+
+differs : (c : tie.After-checksum-differs) → c .checksum-differs .result ≡ checksumDiffers (past-3 (c .before) .given .args .s .now)
 unfolding wordAt
-checksum-differs-requires c κs =
-    let p7 = c .before .before .before .before .before .before .before in
-    omega (arith, p7 .word .ensures, p7 .before .before .pre)
-
-returns-4 : tie.Need-returns-4
-unfolding flagged _>>=_ refuse wordAt
-returns-4 c =
-    let p2 = c .before .before in
-    let p3 = p2 .before in
-    let p4 = p3 .before in
-    let p5 = p4 .before in
-    let p6 = p5 .before in
-    let p7 = p6 .before in
-    let p9 = p7 .before .before in
-    let p10 = p9 .before in
-    let p12 = p10 .before .before in
-    rw (c .refused4 .ensures, flagged, wordAt, ← p10 .word .ensures, le-ltb _ _ (p9 .if1 .left), ← rest-part 16 (p12 .args .s .now), ← p7 .word2 .ensures, ← p6 .required-known .ensures, not-false (p6 .required-known .result) (p5 .if2 .left), ← p4 .checksum-size .ensures, le-ltb _ _ (p3 .if3 .left), ← p2 .checksum-differs .ensures (p10 .word .ensures) (p7 .word2 .ensures ∙ ap word (rest-part 16 (p12 .args .s .now))), c .before .if4 .taken)
-
-returns-5 : tie.Need-returns-5
-unfolding flagged _>>=_ refuse wordAt
-returns-5 c =
-    let p2 = c .before .before in
-    let p3 = p2 .before in
-    let p4 = p3 .before in
-    let p5 = p4 .before in
-    let p6 = p5 .before in
-    let p8 = p6 .before .before in
-    let p9 = p8 .before in
-    let p11 = p9 .before .before in
-    rw (flagged, wordAt, ← p9 .word .ensures, le-ltb _ _ (p8 .if1 .left), ← rest-part 16 (p11 .args .s .now), ← p6 .word2 .ensures, ← p5 .required-known .ensures, not-false (p5 .required-known .result) (p4 .if2 .left), ← p3 .checksum-size .ensures, le-ltb _ _ (p2 .if3 .left), ← c .before .checksum-differs .ensures (p9 .word .ensures) (p6 .word2 .ensures ∙ ap word (rest-part 16 (p11 .args .s .now))), c .if4 .left)
+differs c = let w = c .before .before .before .before .before in c .checksum-differs .ensures (w .before .before .before .word .ensures) (flags w)
 
 pub flagged-spec : {M : Type 1} → statement M
 flagged-spec =
@@ -82,21 +65,26 @@ flagged-spec =
     (tie.spec
     (λ c κs. search needs)
     (λ c κs. search needs)
-    returns
-    sub-word
-    sub-word
+    (λ c. let w = c .before .before in rw (c .refused .ensures) (answers (first (w .before .before)) (rw (← w .word .ensures) (lt-ltb _ _ (c .before .if1 .taken)))))
+    (λ c. omega (arith, fits (c .before)))
+    (λ c. omega (arith, fits (c .before)))
     (λ c. search needs)
     (λ c κs. search needs)
     (λ c κs. search needs)
     (λ c κs. search needs)
-    returns-2
+    (λ c. let k = c .before .before in rw (c .refused2 .ensures) (answers (past-1 (k .before .before .before)) (rw (← flags (k .before), ← k .required-known .ensures) (c .before .if2 .taken))))
     (λ c κs. search needs)
-    add-if3
+    (λ c. omega (arith, checksum-small (c .before .before .before .word2 .result), c .checksum-size .ensures))
     (λ c κs. search needs)
-    returns-3
+    (λ c.
+    let z = c .before .before in
+    let w = z .before .before .before in
+    rw (c .refused3 .ensures) (answers (past-2 (z .before)) (rw (← flags w, ← z .checksum-size .ensures, ← w .before .before .before .word .ensures) (lt-ltb _ _ (c .before .if3 .taken)))))
     (λ c. search needs)
-    checksum-differs-requires
+    (λ c κs. omega (arith, fits (c .before .before .before .before .before .before .before)))
     (λ c. search needs)
     (λ c κs. search needs)
-    returns-4
-    returns-5)
+    (λ c.
+    let d = c .before .before in
+    rw (c .refused4 .ensures, d .before .before .before .before .before .before .before .before .word .ensures) (answers (past-3 (d .before)) (rw (← differs d) (c .before .if4 .taken))))
+    (λ c. answers (next (past-3 (c .before .before)) (rw (← differs (c .before)) (c .if4 .left))) refl))

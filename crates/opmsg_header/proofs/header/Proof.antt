@@ -1,123 +1,85 @@
 -- `opmsg_header::header` meets its contract: each way out has its tests.
 -- Assumes nothing.
+use Prim.Native.Nat.{ℕ}
+use mathlib.Core.Bool.{not}
+use mathlib.Core.Path.{_≡_, refl}
+use mathlib.Core.List.{List, [], _∷_}
+use lib.ListN.{length, drop}
+use lib.Dec.{ltb, eqb}
 use borrow.Author.Needs.{needs}
 use borrow.Author.Tests.{lt-ltb, le-ltb, eq-eqb, ne-eqb}
-use Rattle.wire.specs.Outcome.{refuse, _>>=_}
-use Rattle.wire.specs.Bytes.{wordAt}
+use Rattle.wire.specs.Outcome.{ok}
+use Rattle.wire.specs.Bytes.{word, wordAt, under, oneOf}
+use Rattle.wire.proofs.Checks.{Check, check, Past, first, next, Answers, answers-alone}
 use Rattle.wire.proofs.Parts.{rest-part}
 use Rattle.opmsg.specs.Layout.{maxLength}
 use Rattle.opmsg.specs.Read.{header}
 use Rattle.opmsg_header.proofs.header.Statement.{statement}
 use Rattle.opmsg_header.proofs.header.Tie as tie
 
-returns : tie.Need-returns
-unfolding header _>>=_ refuse
-returns c = rw (c .refused .ensures, header, lt-ltb _ _ (c .before .if1 .taken))
+abbrev checks : List ℕ → List Check
+checks s =
+    let n = word s in
+    let code = word (drop 12 s) in
+    check 1 0 (ltb (length s) 16)
+    ∷ check 2 0 (under 16 n)
+    ∷ check 2 0 (ltb maxLength n)
+    ∷ check 3 0 (ltb (length s) n)
+    ∷ check 4 12 (oneOf (1 ∷ 2001 ∷ 2002 ∷ 2004 ∷ 2005 ∷ 2006 ∷ 2007 ∷ []) code)
+    ∷ check 5 12 (eqb code 2012)
+    ∷ check 6 12 (not (eqb code 2013))
+    ∷ []
 
-returns-2 : tie.Need-returns-2
-unfolding header _>>=_ refuse wordAt
-returns-2 c =
-    let p2 = c .before .before in
-    let p3 = p2 .before in
-    rw (c .refused2 .ensures, header, le-ltb _ _ (p3 .before .if1 .left), wordAt, ← p3 .word .ensures, ← p2 .under .ensures, c .before .if2 .taken)
+answers : {k : ℕ} (p : Past checks k) → Answers p (ok tt) (header (p .given))
+unfolding header wordAt
+answers p = answers-alone p
 
-returns-3 : tie.Need-returns-3
-unfolding header _>>=_ refuse wordAt maxLength
-returns-3 c =
-    let p2 = c .before .before in
-    let p3 = p2 .before in
-    let p4 = p3 .before in
-    rw (c .refused3 .ensures, header, le-ltb _ _ (p4 .before .if1 .left), wordAt, ← p4 .word .ensures, ← p3 .under .ensures, p2 .if2 .left, lt-ltb _ _ (c .before .if3 .taken))
+-- the opcode, as the code reads it
+opcode : (c : tie.After-word2) → c .word2 .result ≡ word (drop 12 (c .before .before .before .before .before .before .before .before .before .args .s .now))
+opcode c = rw rest-part at (c .word2 .ensures)
 
-returns-4 : tie.Need-returns-4
-unfolding header _>>=_ refuse wordAt maxLength
-returns-4 c =
-    let p2 = c .before .before in
-    let p3 = p2 .before in
-    let p4 = p3 .before in
-    let p5 = p4 .before in
-    rw (c .refused4 .ensures, header, le-ltb _ _ (p5 .before .if1 .left), wordAt, ← p5 .word .ensures, ← p4 .under .ensures, p3 .if2 .left, le-ltb _ _ (p2 .if3 .left), lt-ltb _ _ (c .before .if4 .taken))
+abbrev past-1 : tie.Else1 → Past checks 1
+past-1 c = next (first (c .before .before .args .s .now)) (le-ltb _ _ (c .if1 .left))
 
-returns-5 : tie.Need-returns-5
-unfolding header _>>=_ refuse wordAt maxLength
-returns-5 c =
-    let p2 = c .before .before in
-    let p3 = p2 .before in
-    let p5 = p3 .before .before in
-    let p6 = p5 .before in
-    let p7 = p6 .before in
-    let p8 = p7 .before in
-    let p9 = p8 .before in
-    let p10 = p9 .before in
-    rw (c .refused5 .ensures, header, le-ltb _ _ (p10 .if1 .left), wordAt, ← p9 .word .ensures, ← p8 .under .ensures, p7 .if2 .left, le-ltb _ _ (p6 .if3 .left), le-ltb _ _ (p5 .if4 .left), ← rest-part 12 (p10 .before .before .args .s .now), ← p3 .word2 .ensures, ← p2 .older .ensures, c .before .if5 .taken)
+abbrev past-2 : tie.Else2 → Past checks 2
+past-2 c = let u = c .before in next (past-1 (u .before .before)) (rw (← u .before .word .ensures, ← u .under .ensures) (c .if2 .left))
 
-returns-6 : tie.Need-returns-6
-unfolding header _>>=_ refuse wordAt maxLength
-returns-6 c =
-    let p2 = c .before .before in
-    let p3 = p2 .before in
-    let p4 = p3 .before in
-    let p6 = p4 .before .before in
-    let p7 = p6 .before in
-    let p8 = p7 .before in
-    let p9 = p8 .before in
-    let p10 = p9 .before in
-    let p11 = p10 .before in
-    rw (c .refused6 .ensures, header, le-ltb _ _ (p11 .if1 .left), wordAt, ← p10 .word .ensures, ← p9 .under .ensures, p8 .if2 .left, le-ltb _ _ (p7 .if3 .left), le-ltb _ _ (p6 .if4 .left), ← rest-part 12 (p11 .before .before .args .s .now), ← p4 .word2 .ensures, ← p3 .older .ensures, p2 .if5 .left, eq-eqb _ _ (c .before .if6 .taken))
+abbrev past-3 : tie.Else3 → Past checks 3
+past-3 c = next (past-2 (c .before)) (rw (← c .before .before .before .word .ensures) (unfold maxLength in le-ltb _ _ (c .if3 .left)))
 
-returns-7 : tie.Need-returns-7
-unfolding header _>>=_ refuse wordAt maxLength
-returns-7 c =
-    let p2 = c .before .before in
-    let p3 = p2 .before in
-    let p4 = p3 .before in
-    let p5 = p4 .before in
-    let p7 = p5 .before .before in
-    let p8 = p7 .before in
-    let p9 = p8 .before in
-    let p10 = p9 .before in
-    let p11 = p10 .before in
-    let p12 = p11 .before in
-    rw (c .refused7 .ensures, header, le-ltb _ _ (p12 .if1 .left), wordAt, ← p11 .word .ensures, ← p10 .under .ensures, p9 .if2 .left, le-ltb _ _ (p8 .if3 .left), le-ltb _ _ (p7 .if4 .left), ← rest-part 12 (p12 .before .before .args .s .now), ← p5 .word2 .ensures, ← p4 .older .ensures, p3 .if5 .left, ne-eqb _ _ (p2 .if6 .left), ne-eqb _ _ (c .before .if7 .taken))
+abbrev past-4 : tie.Else4 → Past checks 4
+past-4 c = next (past-3 (c .before)) (rw (← c .before .before .before .before .word .ensures) (le-ltb _ _ (c .if4 .left)))
 
-returns-8 : tie.Need-returns-8
-unfolding header _>>=_ refuse wordAt maxLength
-returns-8 c =
-    let p2 = c .before .before in
-    let p3 = p2 .before in
-    let p4 = p3 .before in
-    let p6 = p4 .before .before in
-    let p7 = p6 .before in
-    let p8 = p7 .before in
-    let p9 = p8 .before in
-    let p10 = p9 .before in
-    let p11 = p10 .before in
-    rw (header, le-ltb _ _ (p11 .if1 .left), wordAt, ← p10 .word .ensures, ← p9 .under .ensures, p8 .if2 .left, le-ltb _ _ (p7 .if3 .left), le-ltb _ _ (p6 .if4 .left), ← rest-part 12 (p11 .before .before .args .s .now), ← p4 .word2 .ensures, ← p3 .older .ensures, p2 .if5 .left, ne-eqb _ _ (c .before .if6 .left), eq-eqb _ _ (c .if7 .left))
+abbrev past-5 : tie.Else5 → Past checks 5
+past-5 c = let o = c .before in next (past-4 (o .before .before .before)) (rw (← opcode (o .before), ← o .older .ensures) (c .if5 .left))
+
+abbrev past-6 : tie.Else6 → Past checks 6
+past-6 c = next (past-5 (c .before)) (rw (← opcode (c .before .before .before)) (ne-eqb _ _ (c .if6 .left)))
 
 pub header-spec : {M : Type 1} → statement M
 header-spec =
     tie.close
     (tie.spec
     (λ c κs. search needs)
-    returns
+    (λ c. rw (c .refused .ensures) (answers (first _) (lt-ltb _ _ (c .before .if1 .taken))))
     (λ c κs. search needs)
     (λ c κs. search needs)
     (λ c κs. search needs)
-    returns-2
+    (λ c. let u = c .before .before in rw (c .refused2 .ensures) (answers (past-1 (u .before .before)) (rw (← u .before .word .ensures, ← u .under .ensures) (c .before .if2 .taken))))
     (λ c κs. search needs)
-    returns-3
+    (λ c. let p = c .before .before in rw (c .refused3 .ensures) (answers (past-2 p) (rw (← p .before .before .word .ensures) (unfold maxLength in lt-ltb _ _ (c .before .if3 .taken)))))
     (λ c. search needs)
     (λ c κs. search needs)
-    returns-4
+    (λ c. let p = c .before .before in rw (c .refused4 .ensures) (answers (past-3 p) (rw (← p .before .before .before .word .ensures) (lt-ltb _ _ (c .before .if4 .taken)))))
     (λ c. search needs)
     (λ c. search needs)
     (λ c. search needs)
     (λ c κs. search needs)
     (λ c κs. search needs)
     (λ c κs. search needs)
-    returns-5
+    (λ c. let o = c .before .before in rw (c .refused5 .ensures) (answers (past-4 (o .before .before .before)) (rw (← opcode (o .before), ← o .older .ensures) (c .before .if5 .taken))))
     (λ c κs. search needs)
-    returns-6
+    (λ c. let p = c .before .before in rw (c .refused6 .ensures) (answers (past-5 p) (rw (← opcode (p .before .before)) (eq-eqb _ _ (c .before .if6 .taken)))))
     (λ c κs. search needs)
-    returns-7
-    returns-8)
+    (λ c. let p = c .before .before in rw (c .refused7 .ensures) (answers (past-6 p) (rw (← opcode (p .before .before .before), ne-eqb _ _ (c .before .if7 .taken)))))
+    (λ c. let p = c .before in answers (next (past-6 p) (rw (← opcode (p .before .before .before), eq-eqb _ _ (c .if7 .left)))) refl))

@@ -39,9 +39,6 @@ returns c =
     rw (c .refused .ensures) (sym (differ-again (l .before .before .before .args .xs .now) _ _ _ _ (l .loop .inv .2) (t .loop-test .taken) (omega arith) _ (i .identifier .ensures)
     (sym (n .met .ensures) ∙ c .before .before .if2 .taken)))
 
-loop-less : tie.Need-loop-less Inv-loop μ-loop
-loop-less c = omega arith
-
 loop-again : tie.Need-loop-again Inv-loop μ-loop
 loop-again c =
     let m = c .before in
@@ -77,6 +74,6 @@ identifiers-differ-spec =
     (λ c κs. search needs)
     returns
     (λ c. search needs)
-    loop-less
+    (λ c. omega arith)
     loop-again
     returns-2)

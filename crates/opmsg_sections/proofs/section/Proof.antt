@@ -28,7 +28,8 @@ unfolding sectionAt sectionOf knows _>>=_ refuse
 returns-4 c =
     let p3 = c .before .before .before in
     let p4 = p3 .before in
-    (λ p k. rw (sectionAt, sectionOf, knows, ne-eqb _ _ (p4 .if1 .left), eq-eqb _ _ (p3 .if2 .left), not-false (p4 .before .before .before .args .e .sequences) (c .before .if3 .left)) (c .sequence-section .ensures .0 p _ k), c .sequence-section .ensures .1)
+    let r = c .sequence-section .ensures in
+    (λ p k. rw (sectionAt, sectionOf, knows, ne-eqb _ _ (p4 .if1 .left), eq-eqb _ _ (p3 .if2 .left), not-false (p4 .before .before .before .args .e .sequences) (c .before .if3 .left)) (r .0 p _ k), r .1)
 
 pub section-spec : {M : Type 1} → statement M
 section-spec =

@@ -1,79 +1,75 @@
 -- `opmsg_sequences::sequence_section` meets its contract: each way out has its tests.
 -- Assumes nothing.
-use mathlib.Core.Path.{sym, _∙_}
+use Prim.Native.Nat.{ℕ, _+_}
+use mathlib.Core.Path.{_≡_, refl}
+use mathlib.Core.List.{List, [], _∷_}
 use native.Mathlib.Omega.{arith}
+use lib.ListN.{length, drop}
+use lib.Dec.{ltb, leb}
 use borrow.Author.Needs.{needs}
 use borrow.Author.Tests.{lt-ltb, le-ltb, le-leb, lt-leb}
-use Rattle.wire.specs.Outcome.{refuse, _>>=_}
+use Rattle.wire.specs.Bytes.{word, under}
 use Rattle.wire.proofs.Bytes.{under-false}
+use Rattle.wire.proofs.Checks.{Check, check, Past, first, next, Answers, answers}
 use Rattle.wire.proofs.Parts.{rest-part}
-use Rattle.opmsg.specs.Sections.{maxSequences, sequenceSection}
+use Rattle.opmsg.specs.Sections.{maxSequences, Parts, sequencesOf, sequenceNamed, sequenceSection}
 use Rattle.opmsg_sequences.proofs.sequence_section.Statement.{statement}
 use Rattle.opmsg_sequences.proofs.sequence_section.Tie as tie
 
-returns : tie.Need-returns
-unfolding sequenceSection maxSequences _>>=_ refuse
-returns c = (λ p start k. rw (c .refused .ensures, sequenceSection, k .number-is, le-leb _ _ (c .before .if1 .taken)), rw (c .refused .ensures) tt)
+abbrev checks : tie.Start → List Check
+checks c =
+    let at = c .args .at in
+    let xs = c .args .xs .now in
+    check 14 at (leb maxSequences (c .args .count))
+    ∷ check 12 (at + 1) (ltb (length xs) 5)
+    ∷ check 12 (at + 1) (under 5 (word (drop 1 xs)))
+    ∷ check 12 (at + 1) (ltb (length xs) (1 + word (drop 1 xs)))
+    ∷ []
 
-returns-2 : tie.Need-returns-2
-unfolding sequenceSection maxSequences _>>=_ refuse
-returns-2 c = (λ p start k. rw (c .refused2 .ensures, sequenceSection, k .number-is, lt-leb _ _ (c .before .before .if1 .left), lt-ltb _ _ (c .before .if2 .taken)), rw (c .refused2 .ensures) tt)
+-- behind sections with as many sequences as were counted
+behind : {k : ℕ} (p : Past checks k) (q : Parts) → let a = p .given .args in length (sequencesOf (q .sections)) ≡ a .count
+    → Answers p (sequenceNamed (word (drop 1 (a .xs .now))) (a .at) (a .xs .now) q) (sequenceSection (a .at) (a .xs .now) q)
+unfolding sequenceSection
+behind p q e = rw e (answers p _)
 
-returns-3 : tie.Need-returns-3
-unfolding sequenceSection maxSequences _>>=_ refuse
-returns-3 c =
-    let p2 = c .before .before in
-    let p3 = p2 .before in
-    let p5 = p3 .before .before in
-    let p6 = p5 .before in
-    (λ p start k. rw (c .refused3 .ensures, sequenceSection, k .number-is, lt-leb _ _ (p6 .if1 .left), le-ltb _ _ (p5 .if2 .left), ← rest-part 1 (p6 .before .before .args .xs .now), ← p3 .word .ensures, ← p2 .under .ensures, c .before .if3 .taken), rw (c .refused3 .ensures) tt)
+size : (c : tie.After-word) → c .word .result ≡ word (drop 1 (c .before .before .before .before .before .args .xs .now))
+size c = rw rest-part at (c .word .ensures)
 
-returns-4 : tie.Need-returns-4
-unfolding sequenceSection maxSequences _>>=_ refuse
-returns-4 c =
-    let p2 = c .before .before in
-    let p3 = p2 .before in
-    let p4 = p3 .before in
-    let p6 = p4 .before .before in
-    let p7 = p6 .before in
-    (λ p start k. rw (c .refused4 .ensures, sequenceSection, k .number-is, lt-leb _ _ (p7 .if1 .left), le-ltb _ _ (p6 .if2 .left), ← rest-part 1 (p7 .before .before .args .xs .now), ← p4 .word .ensures, ← p3 .under .ensures, p2 .if3 .left, lt-ltb _ _ (c .before .if4 .taken)), rw (c .refused4 .ensures) tt)
+abbrev past-1 : tie.Else1 → Past checks 1
+past-1 c = next (first (c .before .before)) (unfold maxSequences in lt-leb _ _ (c .if1 .left))
 
-sequence-named-requires : tie.Need-sequence-named-requires
-sequence-named-requires c κs =
-    let p2 = c .before .before in
-    omega (arith, under-false 5 (p2 .before .word .result) (sym (p2 .under .ensures) ∙ c .before .if3 .left))
+abbrev past-2 : tie.Else2 → Past checks 2
+past-2 c = next (past-1 (c .before)) (le-ltb _ _ (c .if2 .left))
 
-returns-5 : tie.Need-returns-5
-unfolding sequenceSection maxSequences _>>=_ refuse
-returns-5 c =
-    let p2 = c .before .before in
-    let p3 = p2 .before in
-    let p4 = p3 .before in
-    let p6 = p4 .before .before in
-    let p7 = p6 .before in
-    (λ p start k. rw (sequenceSection, k .number-is, lt-leb _ _ (p7 .if1 .left), le-ltb _ _ (p6 .if2 .left), ← rest-part 1 (p7 .before .before .args .xs .now), ← p4 .word .ensures, ← p3 .under .ensures, p2 .if3 .left, le-ltb _ _ (c .before .if4 .left)) (c .sequence-named .ensures .0 p (k .elements-is)), c .sequence-named .ensures .1)
+abbrev past-3 : tie.Else3 → Past checks 3
+past-3 c = let u = c .before in next (past-2 (u .before .before .before)) (rw (← size (u .before), ← u .under .ensures) (c .if3 .left))
 
 pub sequence-section-spec : {M : Type 1} → statement M
 sequence-section-spec =
     tie.close
     (tie.spec
     (λ c κs. search needs)
-    returns
+    (λ c. (λ p start k. rw (c .refused .ensures) (behind (first (c .before .before .before)) p (k .number-is) (unfold maxSequences in le-leb _ _ (c .before .if1 .taken))), rw (c .refused .ensures) tt))
     (λ c. search needs)
     (λ c κs. search needs)
-    returns-2
-    (λ c. search needs)
-    (λ c. search needs)
-    (λ c. search needs)
-    (λ c κs. search needs)
-    (λ c κs. search needs)
-    (λ c. search needs)
-    (λ c κs. search needs)
-    returns-3
+    (λ c. (λ p start k. rw (c .refused2 .ensures) (behind (past-1 (c .before .before)) p (k .number-is) (lt-ltb _ _ (c .before .if2 .taken))), rw (c .refused2 .ensures) tt))
     (λ c. search needs)
     (λ c. search needs)
     (λ c. search needs)
     (λ c κs. search needs)
-    returns-4
-    sequence-named-requires
-    returns-5)
+    (λ c κs. search needs)
+    (λ c. search needs)
+    (λ c κs. search needs)
+    (λ c.
+    let u = c .before .before in
+    (λ p start k. rw (c .refused3 .ensures) (behind (past-2 (u .before .before .before)) p (k .number-is) (rw (← size (u .before), ← u .under .ensures) (c .before .if3 .taken))), rw (c .refused3 .ensures) tt))
+    (λ c. search needs)
+    (λ c. search needs)
+    (λ c. search needs)
+    (λ c κs. search needs)
+    (λ c. let s = c .before .before in (λ p start k. rw (c .refused4 .ensures) (behind (past-3 s) p (k .number-is) (rw (← size (s .before .before)) (lt-ltb _ _ (c .before .if4 .taken)))), rw (c .refused4 .ensures) tt))
+    (λ c κs. omega (arith, size (c .before .before .before), under-false 5 _ (past-3 (c .before) .passed .1)))
+    (λ c.
+    let s = c .before in
+    let w = size (s .before .before .before) in
+    (λ p start k. rw (← behind (next (past-3 (s .before)) (rw (← w) (le-ltb _ _ (s .if4 .left)))) p (k .number-is) refl, ← w) (c .sequence-named .ensures .0 p (k .elements-is)), c .sequence-named .ensures .1)))

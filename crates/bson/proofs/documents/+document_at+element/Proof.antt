@@ -5,8 +5,10 @@
 use Prim.Native.Nat.{ℕ, _+_, _-_, _^_, _≤_, _<_}
 use native.Mathlib.Nat.{le-of-lt}
 use native.Mathlib.Omega.{arith}
+use mathlib.Core.Bool.{not}
 use mathlib.Core.Path.{_≡_, sym, ap, _∙_}
 use lib.ListN.{length, take, drop}
+use lib.Dec.{eqb}
 use borrow.Author.Needs.{needs}
 use borrow.Author.Tests.{eq-eqb, ne-eqb}
 use borrow.Fn.Kinds.{In}
@@ -66,20 +68,11 @@ Inv-loop s at levels count n last i₀ total₀ i total =
 abbrev μ-loop : document-at-lts.MeasureT-loop
 μ-loop s at levels count n last i₀ total₀ i total = last - i
 
-document-at-refused-requires : (t : ℕ) → document-at-lts.Need-refused-requires (document-at-calls t) (document-at-at t) document-at.Post Inv-loop μ-loop
-document-at-refused-requires t c κs = search needs
-
 document-at-returns : (t : ℕ) → document-at-lts.Need-returns (document-at-calls t) (document-at-at t) document-at.Post Inv-loop μ-loop
 document-at-returns t c = rw (c .refused .ensures) (sym (no-level _ _ _ _ (c .before .if1 .taken)))
 
 document-at-frame-requires : (t : ℕ) → document-at-lts.Need-frame-requires (document-at-calls t) (document-at-at t) document-at.Post Inv-loop μ-loop
 document-at-frame-requires t c κs = c .before .before .pre .1
-
-document-at-enum-known-w : (t : ℕ) → document-at-lts.Need-enum-known-w (document-at-calls t) (document-at-at t) document-at.Post Inv-loop μ-loop
-document-at-enum-known-w t c = search needs
-
-document-at-enum-told : (t : ℕ) → document-at-lts.Need-enum-told (document-at-calls t) (document-at-at t) document-at.Post Inv-loop μ-loop
-document-at-enum-told t c = search needs
 
 document-at-returns-2 : (t : ℕ) → document-at-lts.Need-returns-2 (document-at-calls t) (document-at-at t) document-at.Post Inv-loop μ-loop
 document-at-returns-2 t c = let e = c .enum-told .given .1 in ap told e ∙ sym (shut _ _ _ _ (c .before .before .frame .ensures) _ (c .before .before .before .if1 .left) _ _ e)
@@ -92,52 +85,26 @@ document-at-loop-holds t c =
     let o = opens _ _ _ _ (c .before .before .before .frame .ensures) _ (c .before .before .before .before .if1 .left) _ _ (c .before .w .given .1) in
     (c .before .w .given .0 .0, omega arith, omega (arith, o .0 .low), omega (arith, o .0 .low, o .0 .fits), omega arith, o .1)
 
-document-at-sub-element : (t : ℕ) → document-at-lts.Need-sub-element (document-at-calls t) (document-at-at t) document-at.Post Inv-loop μ-loop
-document-at-sub-element t c = omega arith
-
-document-at-part-element-start : (t : ℕ) → document-at-lts.Need-part-element-start (document-at-calls t) (document-at-at t) document-at.Post Inv-loop μ-loop
-document-at-part-element-start t c = omega arith
-
-document-at-part-element-end : (t : ℕ) → document-at-lts.Need-part-element-end (document-at-calls t) (document-at-at t) document-at.Post Inv-loop μ-loop
-document-at-part-element-end t c = omega arith
-
-document-at-add-element : (t : ℕ) → document-at-lts.Need-add-element (document-at-calls t) (document-at-at t) document-at.Post Inv-loop μ-loop
-document-at-add-element t c = omega (arith, c .before .before .before .before .before .before .before .before .before .pre .1)
-
-document-at-sub-element-2 : (t : ℕ) → document-at-lts.Need-sub-element-2 (document-at-calls t) (document-at-at t) document-at.Post Inv-loop μ-loop
-document-at-sub-element-2 t c = omega arith
-
-document-at-element-requires : (t : ℕ) → document-at-lts.Need-element-requires (document-at-calls t) (document-at-at t) document-at.Post Inv-loop μ-loop
-document-at-element-requires t c κs = omega (arith, c .element-arg .given .2, c .before .before .before .before .before .before .before .before .before .pre .1, c .before .before .before .before .before .before .before .before .before .pre .0)
-
-document-at-enum-known-e : (t : ℕ) → document-at-lts.Need-enum-known-e (document-at-calls t) (document-at-at t) document-at.Post Inv-loop μ-loop
-document-at-enum-known-e t c = search needs
-
-document-at-enum-told-2 : (t : ℕ) → document-at-lts.Need-enum-told-2 (document-at-calls t) (document-at-at t) document-at.Post Inv-loop μ-loop
-document-at-enum-told-2 t c = search needs
-
 document-at-returns-3 : (t : ℕ) → document-at-lts.Need-returns-3 (document-at-calls t) (document-at-at t) document-at.Post Inv-loop μ-loop
 document-at-returns-3 t c =
     let e = c .enum-told2 .given .1 in
-    let inv = c .before .before .before .before .before .loop .inv in
-    rw (e, inv .5) (sym (halt _ (stops _ _ _ _ _ _ (c .before .before .before .before .loop-test .taken) (le-of-lt (inv .3)) (inv .0) (inv .4) (sym (c .before .before .element .ensures .0) ∙ ap told e))))
-
-document-at-add-i : (t : ℕ) → document-at-lts.Need-add-i (document-at-calls t) (document-at-at t) document-at.Post Inv-loop μ-loop
-document-at-add-i t c = omega (arith, rw (c .before .e .given .1) at (c .before .before .before .element .ensures .1), c .before .before .before .before .element-arg .given .2)
-
-document-at-loop-less : (t : ℕ) → document-at-lts.Need-loop-less (document-at-calls t) (document-at-at t) document-at.Post Inv-loop μ-loop
-document-at-loop-less t c = omega (arith, rw (c .before .e .given .1) at (c .before .before .before .element .ensures .1))
+    let turn = c .before .before .before .before in
+    let inv = turn .before .loop .inv in
+    rw (e, inv .5) (sym (halt _ (stops _ _ _ _ _ _ (turn .loop-test .taken) (le-of-lt (inv .3)) (inv .0) (inv .4) (sym (c .before .before .element .ensures .0) ∙ ap told e))))
 
 document-at-loop-again : (t : ℕ) → document-at-lts.Need-loop-again (document-at-calls t) (document-at-at t) document-at.Post Inv-loop μ-loop
 document-at-loop-again t c =
-    let inv = c .before .before .before .before .before .before .loop .inv in
-    let size = rw (c .before .e .given .1) at (c .before .before .before .element .ensures .1) in (
+    let e = c .before .e .given in
+    let done = c .before .before .before in
+    let turn = done .before .before in
+    let inv = turn .before .loop .inv in
+    let size = rw (e .1) at (done .element .ensures .1) in (
       inv .0 - 1,
       omega (arith, size),
-      omega (arith, size, c .before .before .before .before .element-arg .given .2),
+      omega (arith, size, done .before .element-arg .given .2),
       inv .3,
       omega (arith, size),
-      rw (inv .5, goes-on _ _ _ _ _ _ (c .before .before .before .before .before .loop-test .taken) (le-of-lt (inv .3)) (inv .0) (inv .4) (c .before .e .given .0 .0) (c .before .e .given .0 .1 .0) (sym (c .before .before .before .element .ensures .0) ∙ ap told (c .before .e .given .1))),
+      rw (inv .5, goes-on _ _ _ _ _ _ (turn .loop-test .taken) (le-of-lt (inv .3)) (inv .0) (inv .4) (e .0 .0) (e .0 .1 .0) (sym (done .element .ensures .0) ∙ ap told (e .1))),
     )
 
 document-at-returns-4 : (t : ℕ) → document-at-lts.Need-returns-4 (document-at-calls t) (document-at-at t) document-at.Post Inv-loop μ-loop
@@ -147,141 +114,79 @@ document-at-returns-4 t c =
 
 -- what is known of an arm: where the value lies, that the limit is not reached, and that places do not wrap
 plain-arm : (t : ℕ) (c : element-lts.After-start (element-calls t) (element-at t) element-reads.Post)
-    → (2 ≤ c .start .given .0 .0) × (c .start .given .0 .0 + c .start .given .0 .1 .0 ≤ length (c .before .before .before .before .args .s .now)) × (c .before .before .before .before .args .count < 4096)
+    → let a = c .before .before .before .before .args in
+    (2 ≤ c .start .given .0 .0) × (c .start .given .0 .0 + c .start .given .0 .1 .0 ≤ length (a .s .now)) × (a .count < 4096)
 plain-arm t c =
     let l = rw (c .start .given .1) at (c .before .before .head .ensures .1) in
     (l .0, l .1, few _ _ _ _ (sym (c .before .before .head .ensures .0) ∙ ap outline (c .start .given .1)))
 
 embedded-arm : (t : ℕ) (c : element-lts.After-start2 (element-calls t) (element-at t) element-reads.Post)
-    → (2 ≤ c .start2 .given .0 .0) × (c .start2 .given .0 .0 ≤ length (c .before .before .before .before .args .s .now)) × (c .before .before .before .before .args .count < 4096) × (c .before .before .before .before .args .at + length (c .before .before .before .before .args .s .now) < 2 ^ 64)
+    → let a = c .before .before .before .before .args in
+    (2 ≤ c .start2 .given .0 .0) × (c .start2 .given .0 .0 ≤ length (a .s .now)) × (a .count < 4096) × (a .at + length (a .s .now) < 2 ^ 64)
 embedded-arm t c =
     let l = rw (c .start2 .given .1) at (c .before .before .head .ensures .1) in
     (l .0, l .1, few _ _ _ _ (sym (c .before .before .head .ensures .0) ∙ ap outline (c .start2 .given .1)), c .before .before .before .before .pre .1 .1)
 
 scoped-arm : (t : ℕ) (c : element-lts.After-start3 (element-calls t) (element-at t) element-reads.Post)
-    → (2 ≤ c .start3 .given .0 .0) × (c .start3 .given .0 .1 .0 ≤ c .start3 .given .0 .1 .1 .0) × (c .start3 .given .0 .0 + c .start3 .given .0 .1 .1 .0 ≤ length (c .before .before .before .before .args .s .now))
-    × (c .before .before .before .before .args .count < 4096) × (c .before .before .before .before .args .at + length (c .before .before .before .before .args .s .now) < 2 ^ 64)
+    → let a = c .before .before .before .before .args in
+    let v = c .start3 .given .0 in
+    (2 ≤ v .0) × (v .1 .0 ≤ v .1 .1 .0) × (v .0 + v .1 .1 .0 ≤ length (a .s .now)) × (a .count < 4096) × (a .at + length (a .s .now) < 2 ^ 64)
 scoped-arm t c =
     let l = rw (c .start3 .given .1) at (c .before .before .head .ensures .1) in
     (l .0, l .1, l .2, few _ _ _ _ (sym (c .before .before .head .ensures .0) ∙ ap outline (c .start3 .given .1)), c .before .before .before .before .pre .1 .1)
 
+-- an element whose value is a document, or code with one in it, by what the document is
+embedded-element : (t : ℕ) (c : element-lts.After-document-at (element-calls t) (element-at t) element-reads.Post)
+    → let k = c .before .before .before in
+    let a = k .before .before .before .before .args in
+    element (documentAt (a .levels)) (a .at) (a .s .now) (a .count) ≡ (told (c .document-at .result) >>= λ r. step (k .start2 .given .0 .0 + r .size) (r .state))
+unfolding element inside _>>=_
+embedded-element t c =
+    let k = c .before .before .before in
+    rw (element, ← k .before .before .head .ensures .0, k .start2 .given .1, inside, ← rest-part (k .start2 .given .0 .0) (k .before .before .before .before .args .s .now), ← c .document-at .ensures)
+
+scoped-element : (t : ℕ) (c : element-lts.After-document-at2 (element-calls t) (element-at t) element-reads.Post)
+    → let k = c .before .before .before .before in
+    let a = k .before .before .before .before .args in
+    let v = k .start3 .given .0 in
+    element (documentAt (a .levels)) (a .at) (a .s .now) (a .count)
+    ≡ ((told (c .document-at2 .result) >>= λ d. refuse 19 (a .at + v .0) (not (eqb (v .1 .0 + d .size) (v .1 .1 .0))) >>= λ _. step (v .1 .1 .0) (d .state))
+    >>= λ r. step (v .0 + r .size) (r .state))
+unfolding element inside _>>=_
+scoped-element t c =
+    let k = c .before .before .before .before in
+    rw (element, ← k .before .before .head .ensures .0, k .start3 .given .1, inside, ← rest-part (k .start3 .given .0 .0) (k .before .before .before .before .args .s .now), ← c .document-at2 .ensures)
+
 element-head-requires : (t : ℕ) → element-lts.Need-head-requires (element-calls t) (element-at t) element-reads.Post
 element-head-requires t c κs = c .before .pre .1
-
-element-enum-known-start : (t : ℕ) → element-lts.Need-enum-known-start (element-calls t) (element-at t) element-reads.Post
-element-enum-known-start t c = search needs
-
-element-add-t22 : (t : ℕ) → element-lts.Need-add-t22 (element-calls t) (element-at t) element-reads.Post
-element-add-t22 t c = omega (arith, plain-arm t (c .before))
-
-element-add-t23 : (t : ℕ) → element-lts.Need-add-t23 (element-calls t) (element-at t) element-reads.Post
-element-add-t23 t c = omega (arith, plain-arm t (c .before))
-
-element-enum-known-start-2 : (t : ℕ) → element-lts.Need-enum-known-start-2 (element-calls t) (element-at t) element-reads.Post
-element-enum-known-start-2 t c = search needs
-
-element-sub-document-at : (t : ℕ) → element-lts.Need-sub-document-at (element-calls t) (element-at t) element-reads.Post
-element-sub-document-at t c = omega (arith, embedded-arm t (c .before))
-
-element-part-document-at-start : (t : ℕ) → element-lts.Need-part-document-at-start (element-calls t) (element-at t) element-reads.Post
-element-part-document-at-start t c = omega (arith, embedded-arm t (c .before))
-
-element-part-document-at-end : (t : ℕ) → element-lts.Need-part-document-at-end (element-calls t) (element-at t) element-reads.Post
-element-part-document-at-end t c = search needs
-
-element-add-document-at : (t : ℕ) → element-lts.Need-add-document-at (element-calls t) (element-at t) element-reads.Post
-element-add-document-at t c = omega (arith, embedded-arm t (c .before .before))
-
-element-add-document-at-2 : (t : ℕ) → element-lts.Need-add-document-at-2 (element-calls t) (element-at t) element-reads.Post
-element-add-document-at-2 t c = omega (arith, embedded-arm t (c .before .before))
-
-element-document-at-requires : (t : ℕ) → element-lts.Need-document-at-requires (element-calls t) (element-at t) element-reads.Post
-element-document-at-requires t c κs = omega (arith, embedded-arm t (c .before .before), c .before .before .before .before .before .before .pre .0, c .document-at-arg .given .2)
-
-element-enum-known-w : (t : ℕ) → element-lts.Need-enum-known-w (element-calls t) (element-at t) element-reads.Post
-element-enum-known-w t c = search needs
-
-element-enum-told : (t : ℕ) → element-lts.Need-enum-told (element-calls t) (element-at t) element-reads.Post
-element-enum-told t c = search needs
 
 element-returns : (t : ℕ) → element-lts.Need-returns (element-calls t) (element-at t) element-reads.Post
 unfolding element inside _>>=_ refuse
 element-returns t c =
     let e = c .enum-told .given .1 in
-    (rw (element, ← c .before .before .before .before .before .before .before .head .ensures .0, c .before .before .before .before .before .start2 .given .1, inside, ← rest-part (c .before .before .before .before .before .start2 .given .0 .0) (c .before .before .before .before .before .before .before .before .before .args .s .now), ← c .before .before .document-at .ensures, e), rw e tt)
+    (rw (embedded-element t (c .before .before), e), rw e tt)
 
 element-add-t25 : (t : ℕ) → element-lts.Need-add-t25 (element-calls t) (element-at t) element-reads.Post
 element-add-t25 t c =
     let p = document-past _ _ _ _ _ _ _ (c .before .before .before .document-at .ensures) (c .before .w .given .1) in
     omega (arith, p .fits, embedded-arm t (c .before .before .before .before .before .before), c .before .before .before .before .document-at-arg .given .2)
 
-element-enum-known-start-3 : (t : ℕ) → element-lts.Need-enum-known-start-3 (element-calls t) (element-at t) element-reads.Post
-element-enum-known-start-3 t c = search needs
-
-element-sub-rest : (t : ℕ) → element-lts.Need-sub-rest (element-calls t) (element-at t) element-reads.Post
-element-sub-rest t c = omega (arith, scoped-arm t (c .before))
-
-element-part-rest-start : (t : ℕ) → element-lts.Need-part-rest-start (element-calls t) (element-at t) element-reads.Post
-element-part-rest-start t c = omega (arith, scoped-arm t (c .before))
-
-element-part-rest-end : (t : ℕ) → element-lts.Need-part-rest-end (element-calls t) (element-at t) element-reads.Post
-element-part-rest-end t c = search needs
-
-element-sub-document-at-2 : (t : ℕ) → element-lts.Need-sub-document-at-2 (element-calls t) (element-at t) element-reads.Post
-element-sub-document-at-2 t c = omega (arith, scoped-arm t (c .before .before))
-
-element-part-document-at-start-2 : (t : ℕ) → element-lts.Need-part-document-at-start-2 (element-calls t) (element-at t) element-reads.Post
-element-part-document-at-start-2 t c = omega (arith, scoped-arm t (c .before .before))
-
-element-part-document-at-end-2 : (t : ℕ) → element-lts.Need-part-document-at-end-2 (element-calls t) (element-at t) element-reads.Post
-element-part-document-at-end-2 t c = omega (arith, scoped-arm t (c .before .before), c .rest .given .2)
-
-element-add-document-at-3 : (t : ℕ) → element-lts.Need-add-document-at-3 (element-calls t) (element-at t) element-reads.Post
-element-add-document-at-3 t c = omega (arith, scoped-arm t (c .before .before .before))
-
-element-add-document-at-4 : (t : ℕ) → element-lts.Need-add-document-at-4 (element-calls t) (element-at t) element-reads.Post
-element-add-document-at-4 t c = omega (arith, scoped-arm t (c .before .before .before))
-
-element-add-document-at-5 : (t : ℕ) → element-lts.Need-add-document-at-5 (element-calls t) (element-at t) element-reads.Post
-element-add-document-at-5 t c = omega (arith, scoped-arm t (c .before .before .before))
-
-element-document-at-requires-2 : (t : ℕ) → element-lts.Need-document-at-requires-2 (element-calls t) (element-at t) element-reads.Post
-element-document-at-requires-2 t c κs = omega (arith, scoped-arm t (c .before .before .before), c .before .before .before .before .before .before .before .pre .0, c .document-at-arg2 .given .2, c .before .rest .given .2)
-
-element-enum-known-w-2 : (t : ℕ) → element-lts.Need-enum-known-w-2 (element-calls t) (element-at t) element-reads.Post
-element-enum-known-w-2 t c = search needs
-
-element-enum-told-2 : (t : ℕ) → element-lts.Need-enum-told-2 (element-calls t) (element-at t) element-reads.Post
-element-enum-told-2 t c = search needs
-
 element-returns-2 : (t : ℕ) → element-lts.Need-returns-2 (element-calls t) (element-at t) element-reads.Post
 unfolding element inside _>>=_ refuse
 element-returns-2 t c =
     let e = c .enum-told2 .given .1 in
-    (rw (element, ← c .before .before .before .before .before .before .before .before .head .ensures .0, c .before .before .before .before .before .before .start3 .given .1, inside, ← rest-part (c .before .before .before .before .before .before .start3 .given .0 .0) (c .before .before .before .before .before .before .before .before .before .before .args .s .now), ← c .before .before .document-at2 .ensures, e), rw e tt)
+    (rw (scoped-element t (c .before .before), e), rw e tt)
 
 element-add-if1 : (t : ℕ) → element-lts.Need-add-if1 (element-calls t) (element-at t) element-reads.Post
 element-add-if1 t c =
     let p = document-past _ _ _ _ _ _ _ (c .before .before .before .document-at2 .ensures) (c .before .w2 .given .1) in
     omega (arith, p .fits, scoped-arm t (c .before .before .before .before .before .before .before), c .before .before .before .before .document-at-arg2 .given .2)
 
-element-add-refused : (t : ℕ) → element-lts.Need-add-refused (element-calls t) (element-at t) element-reads.Post
-element-add-refused t c = omega (arith, scoped-arm t (c .before .before .before .before .before .before .before .before))
-
-element-refused-requires : (t : ℕ) → element-lts.Need-refused-requires (element-calls t) (element-at t) element-reads.Post
-element-refused-requires t c κs = search needs
-
 element-returns-3 : (t : ℕ) → element-lts.Need-returns-3 (element-calls t) (element-at t) element-reads.Post
 unfolding element inside _>>=_ refuse
 element-returns-3 t c =
     let e = c .refused .ensures in
-    (rw (e, element, ← c .before .before .before .before .before .before .before .before .before .before .before .head .ensures .0, c .before .before .before .before .before .before .before .before .before .start3 .given .1, inside, ← rest-part (c .before .before .before .before .before .before .before .before .before .start3 .given .0 .0) (c .before .before .before .before .before .before .before .before .before .before .before .before .before .args .s .now), ← c .before .before .before .before .before .document-at2 .ensures, c .before .before .before .w2 .given .1, ne-eqb _ _ (c .before .if1 .taken)), rw e tt)
-
-element-add-t36 : (t : ℕ) → element-lts.Need-add-t36 (element-calls t) (element-at t) element-reads.Post
-element-add-t36 t c = omega (arith, scoped-arm t (c .before .before .before .before .before .before .before .before))
-
-element-enum-known-number : (t : ℕ) → element-lts.Need-enum-known-number (element-calls t) (element-at t) element-reads.Post
-element-enum-known-number t c = search needs
+    (rw (e, scoped-element t (c .before .before .before .before .before), c .before .before .before .w2 .given .1, ne-eqb _ _ (c .before .if1 .taken)), rw e tt)
 
 element-returns-4 : (t : ℕ) → element-lts.Need-returns-4 (element-calls t) (element-at t) element-reads.Post
 unfolding element inside _>>=_ refuse
@@ -291,12 +196,12 @@ element-returns-5 : (t : ℕ) → element-lts.Need-returns-5 (element-calls t) (
 unfolding element inside _>>=_ refuse
 element-returns-5 t c =
     let p = document-past _ _ _ _ _ _ _ (c .before .before .before .document-at .ensures) (c .before .w .given .1) in
-    (rw (element, ← c .before .before .before .before .before .before .before .before .head .ensures .0, c .before .before .before .before .before .before .start2 .given .1, inside, ← rest-part (c .before .before .before .before .before .before .start2 .given .0 .0) (c .before .before .before .before .before .before .before .before .before .before .args .s .now), ← c .before .before .before .document-at .ensures, c .before .w .given .1), omega (arith, p .fits, embedded-arm t (c .before .before .before .before .before .before), c .before .before .before .before .document-at-arg .given .2))
+    (rw (embedded-element t (c .before .before .before), c .before .w .given .1), omega (arith, p .fits, embedded-arm t (c .before .before .before .before .before .before), c .before .before .before .before .document-at-arg .given .2))
 
 element-returns-6 : (t : ℕ) → element-lts.Need-returns-6 (element-calls t) (element-at t) element-reads.Post
 unfolding element inside _>>=_ refuse
 element-returns-6 t c =
-    (rw (element, ← c .before .before .before .before .before .before .before .before .before .before .head .ensures .0, c .before .before .before .before .before .before .before .before .start3 .given .1, inside, ← rest-part (c .before .before .before .before .before .before .before .before .start3 .given .0 .0) (c .before .before .before .before .before .before .before .before .before .before .before .before .args .s .now), ← c .before .before .before .before .document-at2 .ensures, c .before .before .w2 .given .1, eq-eqb _ _ (c .if1 .left)), omega (arith, scoped-arm t (c .before .before .before .before .before .before .before .before)))
+    (rw (scoped-element t (c .before .before .before .before), c .before .before .w2 .given .1, eq-eqb _ _ (c .if1 .left)), omega (arith, scoped-arm t (c .before .before .before .before .before .before .before .before)))
 
 element-returns-7 : (t : ℕ) → element-lts.Need-returns-7 (element-calls t) (element-at t) element-reads.Post
 unfolding element _>>=_ refuse
@@ -306,63 +211,63 @@ pub +document-at+element-spec : {M : Type 1} → statement M
 +document-at+element-spec =
     close μ-document-at μ-element
     (λ t. document-at-lts.spec (document-at-calls t) (document-at-at t) document-at.Post Inv-loop μ-loop
-    (document-at-refused-requires t)
+    (λ c κs. search needs)
     (document-at-returns t)
     (document-at-frame-requires t)
-    (document-at-enum-known-w t)
-    (document-at-enum-told t)
+    (λ c. search needs)
+    (λ c. search needs)
     (document-at-returns-2 t)
     (document-at-sub-last t)
     (document-at-loop-holds t)
-    (document-at-sub-element t)
-    (document-at-part-element-start t)
-    (document-at-part-element-end t)
-    (document-at-add-element t)
-    (document-at-sub-element-2 t)
-    (document-at-element-requires t)
-    (document-at-enum-known-e t)
-    (document-at-enum-told-2 t)
+    (λ c. omega arith)
+    (λ c. omega arith)
+    (λ c. omega arith)
+    (λ c. omega (arith, c .before .before .before .before .before .before .before .before .before .pre .1))
+    (λ c. omega arith)
+    (λ c κs. omega (arith, c .element-arg .given .2, c .before .before .before .before .before .before .before .before .before .pre))
+    (λ c. search needs)
+    (λ c. search needs)
     (document-at-returns-3 t)
-    (document-at-add-i t)
-    (document-at-loop-less t)
+    (λ c. omega (arith, rw (c .before .e .given .1) at (c .before .before .before .element .ensures .1), c .before .before .before .before .element-arg .given .2))
+    (λ c. omega (arith, rw (c .before .e .given .1) at (c .before .before .before .element .ensures .1)))
     (document-at-loop-again t)
     (document-at-returns-4 t))
     λ t. element-lts.spec (element-calls t) (element-at t) element-reads.Post
     (element-head-requires t)
-    (element-enum-known-start t)
-    (element-add-t22 t)
-    (element-add-t23 t)
-    (element-enum-known-start-2 t)
-    (element-sub-document-at t)
-    (element-part-document-at-start t)
-    (element-part-document-at-end t)
-    (element-add-document-at t)
-    (element-add-document-at-2 t)
-    (element-document-at-requires t)
-    (element-enum-known-w t)
-    (element-enum-told t)
+    (λ c. search needs)
+    (λ c. omega (arith, plain-arm t (c .before)))
+    (λ c. omega (arith, plain-arm t (c .before)))
+    (λ c. search needs)
+    (λ c. omega (arith, embedded-arm t (c .before)))
+    (λ c. omega (arith, embedded-arm t (c .before)))
+    (λ c. search needs)
+    (λ c. omega (arith, embedded-arm t (c .before .before)))
+    (λ c. omega (arith, embedded-arm t (c .before .before)))
+    (λ c κs. omega (arith, embedded-arm t (c .before .before), c .before .before .before .before .before .before .pre .0, c .document-at-arg .given .2))
+    (λ c. search needs)
+    (λ c. search needs)
     (element-returns t)
     (element-add-t25 t)
-    (element-enum-known-start-3 t)
-    (element-sub-rest t)
-    (element-part-rest-start t)
-    (element-part-rest-end t)
-    (element-sub-document-at-2 t)
-    (element-part-document-at-start-2 t)
-    (element-part-document-at-end-2 t)
-    (element-add-document-at-3 t)
-    (element-add-document-at-4 t)
-    (element-add-document-at-5 t)
-    (element-document-at-requires-2 t)
-    (element-enum-known-w-2 t)
-    (element-enum-told-2 t)
+    (λ c. search needs)
+    (λ c. omega (arith, scoped-arm t (c .before)))
+    (λ c. omega (arith, scoped-arm t (c .before)))
+    (λ c. search needs)
+    (λ c. omega (arith, scoped-arm t (c .before .before)))
+    (λ c. omega (arith, scoped-arm t (c .before .before)))
+    (λ c. omega (arith, scoped-arm t (c .before .before), c .rest .given .2))
+    (λ c. omega (arith, scoped-arm t (c .before .before .before)))
+    (λ c. omega (arith, scoped-arm t (c .before .before .before)))
+    (λ c. omega (arith, scoped-arm t (c .before .before .before)))
+    (λ c κs. omega (arith, scoped-arm t (c .before .before .before), c .before .before .before .before .before .before .before .pre .0, c .document-at-arg2 .given .2, c .before .rest .given .2))
+    (λ c. search needs)
+    (λ c. search needs)
     (element-returns-2 t)
     (element-add-if1 t)
-    (element-add-refused t)
-    (element-refused-requires t)
+    (λ c. omega (arith, scoped-arm t (c .before .before .before .before .before .before .before .before)))
+    (λ c κs. search needs)
     (element-returns-3 t)
-    (element-add-t36 t)
-    (element-enum-known-number t)
+    (λ c. omega (arith, scoped-arm t (c .before .before .before .before .before .before .before .before)))
+    (λ c. search needs)
     (element-returns-4 t)
     (element-returns-5 t)
     (element-returns-6 t)

@@ -1,81 +1,66 @@
 -- `bson::documents::frame` meets its contract: each way out has its tests, on the number that `word` answers.
 -- Assumes nothing.
-use borrow.Author.Needs.{needs}
+use Prim.Native.Nat.{ℕ, _+_, _-_}
+use mathlib.Core.Bool.{not}
+use mathlib.Core.Path.{refl}
+use mathlib.Core.List.{List, [], _∷_}
 use native.Mathlib.Omega.{arith}
-use mathlib.Core.Path.{sym, _∙_}
+use lib.ListN.{length, getD}
+use lib.Dec.{ltb, eqb}
+use borrow.Author.Needs.{needs}
 use borrow.Author.Tests.{lt-ltb, le-ltb, eq-eqb, ne-eqb}
+use Rattle.wire.specs.Outcome.{ok, _>>=_}
+use Rattle.wire.specs.Bytes.{word, under}
 use Rattle.wire.proofs.Bytes.{under-false}
-use Rattle.wire.specs.Outcome.{refuse, _>>=_}
+use Rattle.wire.proofs.Checks.{Check, check, Past, first, next, Answers, answers}
 use Rattle.bson.specs.Document.{frame}
 use Rattle.bson.proofs.documents.frame.Statement.{statement}
 use Rattle.bson.proofs.documents.frame.Tie as tie
 
-refused-requires : tie.Need-refused-requires
-refused-requires c κs = search needs
+abbrev checks : tie.Start → List Check
+checks c =
+    let xs = c .args .s .now in
+    let last = word xs - 1 in
+    check 15 (c .args .at) (ltb (length xs) 4)
+    ∷ check 15 (c .args .at) (under 5 (word xs))
+    ∷ check 15 (c .args .at) (ltb (length xs) (word xs))
+    ∷ check 16 (c .args .at + last) (not (eqb (getD xs last 0) 0))
+    ∷ []
 
-returns : tie.Need-returns
-unfolding frame _>>=_ refuse
-returns c = rw (c .refused .ensures, frame, lt-ltb _ _ (c .before .if1 .taken))
+framed : {k : ℕ} (p : Past checks k) → let a = p .given .args in Answers p (ok (word (a .s .now))) (frame (a .at) (a .s .now))
+unfolding frame
+framed p = answers p _
 
-word-requires : tie.Need-word-requires
-word-requires c κs = search needs
+abbrev past-1 : tie.Else1 → Past checks 1
+past-1 c = next (first (c .before .before)) (le-ltb _ _ (c .if1 .left))
 
-under-requires : tie.Need-under-requires
-under-requires c κs = search needs
+abbrev past-2 : tie.Else2 → Past checks 2
+past-2 c = let u = c .before in next (past-1 (u .before .before)) (rw (← u .before .word .ensures, ← u .under .ensures) (c .if2 .left))
 
-refused-requires-2 : tie.Need-refused-requires-2
-refused-requires-2 c κs = search needs
-
-returns-2 : tie.Need-returns-2
-unfolding frame _>>=_ refuse
-returns-2 c = rw (c .refused2 .ensures, frame, le-ltb _ _ (c .before .before .before .before .if1 .left), ← c .before .before .before .word .ensures, ← c .before .before .under .ensures, c .before .if2 .taken)
-
-cast-n : tie.Need-cast-n
-cast-n c = search needs
-
-refused-requires-3 : tie.Need-refused-requires-3
-refused-requires-3 c κs = search needs
-
-returns-3 : tie.Need-returns-3
-unfolding frame _>>=_ refuse
-returns-3 c = rw (c .refused3 .ensures, frame, le-ltb _ _ (c .before .before .before .before .before .if1 .left), ← c .before .before .before .before .word .ensures, ← c .before .before .before .under .ensures, c .before .before .if2 .left, lt-ltb _ _ (c .before .if3 .taken))
-
-sub-last : tie.Need-sub-last
-sub-last c = omega (arith, under-false 5 (c .before .before .before .word .result) (sym (c .before .before .under .ensures) ∙ c .before .if2 .left))
-
-shared-slice-read-if4 : tie.Need-shared-slice-read-if4
-shared-slice-read-if4 c = search needs
-
-add-refused : tie.Need-add-refused
-add-refused c = search needs
-
-refused-requires-4 : tie.Need-refused-requires-4
-refused-requires-4 c κs = search needs
-
-returns-4 : tie.Need-returns-4
-unfolding frame _>>=_ refuse
-returns-4 c = rw (c .refused4 .ensures, frame, le-ltb _ _ (c .before .before .before .before .before .before .before .if1 .left), ← c .before .before .before .before .before .before .word .ensures, ← c .before .before .before .before .before .under .ensures, c .before .before .before .before .if2 .left, le-ltb _ _ (c .before .before .before .if3 .left), ne-eqb _ _ (c .before .if4 .taken))
-
-returns-5 : tie.Need-returns-5
-unfolding frame _>>=_ refuse
-returns-5 c = rw (frame, le-ltb _ _ (c .before .before .before .before .before .before .if1 .left), ← c .before .before .before .before .before .word .ensures, ← c .before .before .before .before .under .ensures, c .before .before .before .if2 .left, le-ltb _ _ (c .before .before .if3 .left), eq-eqb _ _ (c .if4 .left))
+abbrev past-3 : tie.Else3 → Past checks 3
+past-3 c = next (past-2 (c .before)) (rw (← c .before .before .before .word .ensures) (le-ltb _ _ (c .if3 .left)))
 
 pub frame-spec : {M : Type 1} → statement M
+unfolding _>>=_
 frame-spec =
     tie.close
     (tie.spec
-    refused-requires
-    returns
-    word-requires
-    under-requires
-    refused-requires-2
-    returns-2
-    cast-n
-    refused-requires-3
-    returns-3
-    sub-last
-    shared-slice-read-if4
-    add-refused
-    refused-requires-4
-    returns-4
-    returns-5)
+    (λ c κs. search needs)
+    (λ c. rw (c .refused .ensures, ← framed (first (c .before .before .before)) (lt-ltb _ _ (c .before .if1 .taken))))
+    (λ c κs. search needs)
+    (λ c κs. search needs)
+    (λ c κs. search needs)
+    (λ c. let u = c .before .before in rw (c .refused2 .ensures, ← framed (past-1 (u .before .before)) (rw (← u .before .word .ensures, ← u .under .ensures) (c .before .if2 .taken))))
+    (λ c. search needs)
+    (λ c κs. search needs)
+    (λ c. let p = c .before .before in rw (c .refused3 .ensures, ← framed (past-2 p) (rw (← p .before .before .word .ensures) (lt-ltb _ _ (c .before .if3 .taken)))))
+    (λ c. let w = c .before .before .before in omega (arith, w .word .ensures, under-false 5 _ (past-2 (c .before) .passed .1)))
+    (λ c. search needs)
+    (λ c. search needs)
+    (λ c κs. search needs)
+    (λ c.
+    let p = c .before .before .before in
+    rw (c .refused4 .ensures, p .before .before .before .word .ensures, ← framed (past-3 p) (rw (← p .before .before .before .word .ensures, ne-eqb _ _ (c .before .if4 .taken)))))
+    (λ c.
+    let p = c .before .before in
+    rw (p .before .before .before .word .ensures, ← framed (next (past-3 p) (rw (← p .before .before .before .word .ensures, eq-eqb _ _ (c .if4 .left)))) refl)))

@@ -45,9 +45,6 @@ loop-again c =
           ∙ rw (← p2 .identifier .ensures, ← c .before .same .ensures, c .if1 .left),
     )
 
-loop-less : tie.Need-loop-less Inv-loop μ-loop
-loop-less c = omega arith
-
 returns-2 : tie.Need-returns-2 Inv-loop μ-loop
 unfolding texts among
 returns-2 c =
@@ -67,6 +64,6 @@ identified-spec =
     (λ c κs. search needs)
     returns
     (λ c. search needs)
-    loop-less
+    (λ c. omega arith)
     loop-again
     returns-2)

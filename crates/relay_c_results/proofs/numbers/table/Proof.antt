@@ -17,29 +17,11 @@ abbrev μ-loop : tie.MeasureT-loop
 loop-holds : tie.Need-loop-holds Inv-loop μ-loop
 loop-holds c = (c .good .1 .0 .1 .0 .1, c .pre, omega arith, shown-none (c .args .out .now) (c .args .t2) (c .good .1 .0 .1 .0 .1) (c .pre))
 
-mul-q : tie.Need-mul-q Inv-loop μ-loop
-mul-q c = omega arith
-
-array-copy-out-q : tie.Need-array-copy-out-q Inv-loop μ-loop
-array-copy-out-q c = omega arith
-
-mul-sequence : tie.Need-mul-sequence Inv-loop μ-loop
-mul-sequence c = omega arith
-
-add-sequence : tie.Need-add-sequence Inv-loop μ-loop
-add-sequence c = omega arith
-
 sequence-requires : tie.Need-sequence-requires Inv-loop μ-loop
 sequence-requires c κs =
     let p3 = c .before .before .before in
     let p4 = p3 .before in
     omega (arith, shown-long (p4 .args .out .now) (p4 .args .t2) (p3 .loop .inv .0) (p3 .loop .inv .1) (p3 .loop .i) (p3 .loop .out) (p3 .loop .inv .2) (p3 .loop .inv .3))
-
-add-i : tie.Need-add-i Inv-loop μ-loop
-add-i c = omega arith
-
-loop-less : tie.Need-loop-less Inv-loop μ-loop
-loop-less c = omega arith
 
 loop-again : tie.Need-loop-again Inv-loop μ-loop
 loop-again c =
@@ -68,13 +50,13 @@ table-spec =
     Inv-loop
     μ-loop
     loop-holds
-    mul-q
-    array-copy-out-q
-    mul-sequence
-    add-sequence
+    (λ c. omega arith)
+    (λ c. omega arith)
+    (λ c. omega arith)
+    (λ c. omega arith)
     sequence-requires
-    add-i
-    loop-less
+    (λ c. omega arith)
+    (λ c. omega arith)
     loop-again
     same-length
     returns)
