@@ -51,7 +51,17 @@ pub record FirstUnknown (e : Edition) (sections : List Section) (q : Section) : 
 
 -- the view with another flag word
 unfoldable pub withFlags : View → ℕ → View
-withFlags v flags = record { length = v .length; «request_id» = v .«request_id»; «response_to» = v .«response_to»; flags = flags; body = v .body; «body_length» = v .«body_length»; «sequence_count» = v .«sequence_count»; sequences = v .sequences; elements = v .elements }
+withFlags v flags = record {
+  length = v .length;
+  «request_id» = v .«request_id»;
+  «response_to» = v .«response_to»;
+  flags = flags;
+  body = v .body;
+  «body_length» = v .«body_length»;
+  «sequence_count» = v .«sequence_count»;
+  sequences = v .sequences;
+  elements = v .elements;
+}
 
 -- an output with room for a message
 abbrev pub Room : List ℕ → List ℕ → Type 0

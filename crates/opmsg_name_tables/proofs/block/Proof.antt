@@ -113,7 +113,9 @@ loop-again c =
     let d = e .before .before in
     let f = d .before .before in
     let l = L f in
-    filling-more _ _ _ _ _ _ _ _ (l .before .before .before .pre .0) (l .loop .inv) (f .before .before .before .before .loop-test .taken) _ (between d) _ (size-is e) (omega (arith, n .before .before .if1 .taken, l .loop .inv .size-is)) _ (n .insert .ensures .0) (n .insert .ensures .1)
+    let inside = f .before .before .before .before .loop-test .taken in
+    filling-more _ _ _ _ _ _ _ _ (l .before .before .before .pre .0) (l .loop .inv) inside _ (between d) _ (size-is e)
+    (omega (arith, n .before .before .if1 .taken, l .loop .inv .size-is)) _ (n .insert .ensures .0) (n .insert .ensures .1)
 
 loop-less-2 : tie.Need-loop-less-2 Inv-loop μ-loop
 loop-less-2 c = omega (arith, next (c .before) .0)

@@ -20,8 +20,11 @@ returns c =
 returns-2 : tie.Need-returns-2
 unfolding hashOf
 returns-2 c =
-    let text = c .before .before .before .before .before .before .before .before .args .text .now in
-    rw (hashOf, ← rest-part (length text - 4) text, ← rest-part (length text / 2) text, ← c .before .word4 .ensures, ← c .before .before .before .word3 .ensures, ← c .before .before .before .before .before .word .ensures) (c .mixed2 .ensures)
+    let p1 = c .before in
+    let p3 = p1 .before .before in
+    let p5 = p3 .before .before in
+    let text = p5 .before .before .before .args .text .now in
+    rw (hashOf, ← rest-part (length text - 4) text, ← rest-part (length text / 2) text, ← p1 .word4 .ensures, ← p3 .word3 .ensures, ← p5 .word .ensures) (c .mixed2 .ensures)
 
 pub hash-spec : {M : Type 1} → statement M
 hash-spec =
