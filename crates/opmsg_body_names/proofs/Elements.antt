@@ -102,8 +102,8 @@ pub record NamesPassed (at : ℕ) (xs : List ℕ) (i k : ℕ) (marks : List ℕ)
   pub met : Met 23 [] (elementNames (length xs) at xs) k marks
 
 module _ (at : ℕ) (xs : List ℕ) where
-  pub listed-none : Filled xs → (marks : List ℕ) → length marks ≡ 32 → NamesPassed at xs 0 0 marks
-  listed-none f marks h =
+  pub passed-none : Filled xs → (marks : List ℕ) → length marks ≡ 32 → NamesPassed at xs 0 0 marks
+  passed-none f marks h =
       let e : at + 0 ≡ at = omega arith in
       record { turns = length xs; reached = reached-none xs f; whole = f; few = omega arith; left = rw e; met = met-none 23 [] _ (marks-none marks h) }
 
@@ -112,8 +112,8 @@ module _ (at : ℕ) (xs : List ℕ) where
     before = texts-take k (elementNames (length xs) at xs) ∙ ap (take k) (names-of (length xs) at xs (l .whole) (omega arith))
 
     -- a name without a mark is new
-    pub listed-unmarked : (t : List ℕ) → marked marks (slotOf t) ≡ false → among (take k (namesOf xs)) t ≡ false
-    listed-unmarked t h = rw before at (met-unmarked 23 [] (elementNames (length xs) at xs) k (l .met) t h)
+    pub passed-unmarked : (t : List ℕ) → marked marks (slotOf t) ≡ false → among (take k (namesOf xs)) t ≡ false
+    passed-unmarked t h = rw before at (met-unmarked 23 [] (elementNames (length xs) at xs) k (l .met) t h)
 
     module _ (inside : i < length xs) where
       name : (size : ℕ) → size ≡ elementSize (drop i xs)
@@ -121,13 +121,13 @@ module _ (at : ℕ) (xs : List ℕ) where
       name size e = l .left ∙ reached-names xs i (l .turns) (l .reached) inside (at + i) size e
 
       -- the next name is there already
-      pub listed-again : among (take k (namesOf xs)) (nameText (drop i xs)) ≡ true → distinct 23 [] (elementNames (length xs) at xs) ≡ refused 23 (at + i + 1)
-      listed-again h = met-again 23 [] (elementNames (length xs) at xs) k (l .met) _ _ (name _ refl) (rw before h)
+      pub passed-again : among (take k (namesOf xs)) (nameText (drop i xs)) ≡ true → distinct 23 [] (elementNames (length xs) at xs) ≡ refused 23 (at + i + 1)
+      passed-again h = met-again 23 [] (elementNames (length xs) at xs) k (l .met) _ _ (name _ refl) (rw before h)
 
       -- the next name is new
-      pub listed-next : (size : ℕ) → size ≡ elementSize (drop i xs) → among (take k (namesOf xs)) (nameText (drop i xs)) ≡ false
+      pub passed-next : (size : ℕ) → size ≡ elementSize (drop i xs) → among (take k (namesOf xs)) (nameText (drop i xs)) ≡ false
           → NamesPassed at xs (i + size) (k + 1) (marking marks (slotOf (nameText (drop i xs))))
-      listed-next size e h =
+      passed-next size e h =
           let r = reached-next xs i (l .turns) (l .reached) inside size e in
           let place : at + i + size ≡ at + (i + size) = omega arith in
           record {
@@ -144,11 +144,11 @@ module _ (at : ℕ) (xs : List ℕ) where
       done : drop k (elementNames (length xs) at xs) ≡ []
       done = l .left ∙ reached-end xs i (l .turns) (l .reached) (at + i) end
 
-      pub listed-all : distinct 23 [] (elementNames (length xs) at xs) ≡ ok tt
-      listed-all = met-all 23 [] (elementNames (length xs) at xs) k (l .met) done
+      pub passed-all : distinct 23 [] (elementNames (length xs) at xs) ≡ ok tt
+      passed-all = met-all 23 [] (elementNames (length xs) at xs) k (l .met) done
 
-      pub listed-marks : Marks (namesOf xs) marks
-      listed-marks = rw (names-of (length xs) at xs (l .whole) (omega arith)) at (met-marks 23 [] (elementNames (length xs) at xs) k (l .met) done)
+      pub passed-marks : Marks (namesOf xs) marks
+      passed-marks = rw (names-of (length xs) at xs (l .whole) (omega arith)) at (met-marks 23 [] (elementNames (length xs) at xs) k (l .met) done)
 
 -- ---- marks are made: each of the names has one, or is among those from place i on
 

@@ -18,7 +18,7 @@ ghost use Rattle.opmsg_body_names.specs.Inner.{namesOf, spread, slotOf, 
 // How often marks are met in vain before tables are made.
 const VAIN: usize = 3;
 
-// Bodies of more bytes get tables at once.
+// The most bytes of a body whose names are likely to meet no mark.
 const LONG: usize = 0x1_0000;
 
 // Two texts are the same.
@@ -169,8 +169,7 @@ fn compared(xs: &[u8], at: usize, marks: &mut [u64; 32]) -> Verdict
     Verdict::Accepted
 }
 
-// Check 23 of a body's elements xs, the first at a place. Their names get marks: where none is met, the names differ. In a long
-// body some would be met in vain.
+// Check 23 of a body's elements xs, the first at a place. Their names get marks: where none is met, the names differ.
 pub fn body_names(xs: &[u8], at: usize, marks: &mut [u64; 32]) -> Verdict
     requires { ⌜ Filled (now xs) × (at + length (now xs) < 2 ^ 64) × (length (now marks) ≡ 32) ⌝ }
     ensures is { λ r. ⌜ judged r ≡ distinct 23 [] (elementNames (length (now (xs .entry))) at (now (xs .entry))) ⌝ }

@@ -12,7 +12,7 @@ use lib.Dec.{ltb, eqb}
 use borrow.Author.Tests.{ltb-true, ltb-false, eqb-true, eqb-false}
 use Rattle.bson_elements.specs.Element.{elementSize}
 use Rattle.opmsg.specs.Inner.{Filled}
-use Rattle.opmsg_name_tables.specs.Inner.{textAt, startOf, nameOf, Again, First, reach, hashOf, homeOf, held, Blank, Free, Held}
+use Rattle.opmsg_name_tables.specs.Inner.{textAt, startOf, nameOf, Again, First, reach, hashOf, homeOf, held, Blank, Free, SlotHolds}
 use Rattle.opmsg_name_tables.proofs.Starts.{start-next, start-before, start-whole}
 use Rattle.opmsg_name_tables.proofs.Blocks.{Drawn}
 
@@ -94,7 +94,7 @@ module _ (size : ℕ) (xs slots : List ℕ) (i : ℕ) (f : Filled xs) (g : Slott
     pub slotted-size : (0 < elementSize (drop i xs)) × (elementSize (drop i xs) ≤ length (drop i xs))
     slotted-size = rw (g .place) (start-whole xs f (g .here) (omega (arith, g .place)))
 
-    pub slotted-seen : Held xs slots (textAt xs i) → First xs i
+    pub slotted-seen : SlotHolds xs slots (textAt xs i) → First xs i
     slotted-seen e =
         let d = g .drawn (e .at) (e .full) in
         record {

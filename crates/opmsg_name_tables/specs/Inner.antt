@@ -14,8 +14,8 @@ use Rattle.opmsg_name_tables.specs.declared.Probe.{Probe}
 use Rattle.opmsg_name_tables.specs.declared.Probe.the-variants.{Known, Open, Crowd}
 use Rattle.opmsg_name_tables.specs.declared.Tried.{Tried}
 use Rattle.opmsg_name_tables.specs.declared.Tried.the-variants.{Place, Crowded}
-use Rattle.opmsg_name_tables.specs.declared.Found.{Found}
-use Rattle.opmsg_name_tables.specs.declared.Found.the-variants.{Seen, Insert}
+use Rattle.opmsg_name_tables.specs.declared.Search.{Search}
+use Rattle.opmsg_name_tables.specs.declared.Search.the-variants.{Seen, Insert}
 
 -- ---- an order of texts: by the first byte at which they differ, where a text that ends counts as a zero
 
@@ -72,7 +72,7 @@ pub record Entered (xs table : List ℕ) (m : ℕ) (text : List ℕ) : Type 0 wh
   pub within : at < m
   pub same : text ≡ entry xs table at
 
-abbrev pub Looked : List ℕ → List ℕ → ℕ → List ℕ → Found → Type 0
+abbrev pub Looked : List ℕ → List ℕ → ℕ → List ℕ → Search → Type 0
 Looked xs table m text Seen = Entered xs table m text
 Looked xs table m text (Insert i) = Between xs table m text i
 
@@ -145,13 +145,13 @@ pub record Free (xs slots text : List ℕ) (start j : ℕ) : Type 0 where
   pub other : (l : ℕ) → start ≤ l → l < j → text ≡ held xs slots l → ⊥
 
 -- a slot that holds a text
-pub record Held (xs slots text : List ℕ) : Type 0 where
+pub record SlotHolds (xs slots text : List ℕ) : Type 0 where
   pub at : ℕ
   pub full : 0 < getD slots at 0
   pub same : text ≡ held xs slots at
 
 abbrev pub Probed : List ℕ → List ℕ → List ℕ → ℕ → Probe → Type 0
-Probed xs slots text start Known = Held xs slots text
+Probed xs slots text start Known = SlotHolds xs slots text
 Probed xs slots text start (Open j) = Free xs slots text start j
 Probed xs slots text start Crowd = Unit {0}
 

@@ -8,7 +8,7 @@ use wire::word;
 ghost use mathlib.Core.Bool.{true, false};
 ghost use mathlib.Core.List.{[]};
 ghost use mathlib.Core.Path.{_≡_};
-ghost use Prim.Native.Nat.{ℕ, _+_, _-_, _*_, _/_, _%_, _^_, _<_, _≤_};
+ghost use Prim.Native.Nat.{ℕ, _+_, _-_, _^_, _<_, _≤_};
 ghost use lib.ListN.{length, getD, take};
 ghost use Rattle.wire.specs.Bytes.{untilZero};
 ghost use Rattle.opmsg.specs.Names.{distinct, elementNames};
@@ -29,7 +29,7 @@ pub enum Order {
 }
 
 // What looking a text up finds: it is there, or where it belongs.
-pub enum Found {
+pub enum Search {
     Seen,
     Insert(usize),
 }
@@ -81,7 +81,7 @@ fn against(xs: &[u8], place: usize, text: &[u8]) -> Order
 }
 
 // Looks a text up among the names at the first m places of a table.
-fn find(xs: &[u8], table: &[u32], m: usize, text: &[u8]) -> Found
+fn find(xs: &[u8], table: &[u32], m: usize, text: &[u8]) -> Search
     requires { ⌜ Sorted (now xs) (now table) m × (length (now xs) < 2 ^ 32) × WithoutZero (now text) ⌝ }
     ensures { λ r. ⌜ Looked (now (xs .entry)) (now (table .entry)) m (now (text .entry)) r ⌝ }
 {
@@ -96,14 +96,14 @@ fn find(xs: &[u8], table: &[u32], m: usize, text: &[u8]) -> Found
                 high = middle;
             }
             Order::Same => {
-                return Found::Seen;
+                return Search::Seen;
             }
             Order::After => {
                 low = middle + 1;
             }
         }
     }
-    Found::Insert(low)
+    Search::Insert(low)
 }
 
 // Puts a place into a table, before those of the first m entries that stand from i on.
@@ -139,7 +139,7 @@ fn block(xs: &[u8], table: &mut [u32], s: usize, bound: usize) -> Left
     while i < bound {
         let rest = &xs[i..];
         let found = find(xs, table, m, name(rest));
-        let Found::Insert(k) = found else {
+        let Search::Insert(k) = found else {
             return Left { next, bound: i };
         };
         let after = i + element_size(rest);

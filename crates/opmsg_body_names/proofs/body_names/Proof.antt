@@ -9,7 +9,7 @@ use Rattle.bson_elements.specs.Element.{elementSize}
 use Rattle.wire.proofs.Parts.{rest-part}
 use Rattle.opmsg_body_names.specs.Inner.{nameText}
 use Rattle.opmsg_body_names.proofs.Distinct.{marking-size}
-use Rattle.opmsg_body_names.proofs.Elements.{Reached, reached-size, reached-next, NamesPassed, listed-none, listed-unmarked, listed-next, listed-all, listed-marks}
+use Rattle.opmsg_body_names.proofs.Elements.{Reached, reached-size, reached-next, NamesPassed, passed-none, passed-unmarked, passed-next, passed-all, passed-marks}
 use Rattle.opmsg_body_names.proofs.body_names.Statement.{statement}
 use Rattle.opmsg_body_names.proofs.body_names.Tie as tie
 
@@ -53,7 +53,7 @@ returns : tie.Need-returns Inv-loop μ-loop
 returns c = c .compared .ensures
 
 loop-holds : tie.Need-loop-holds Inv-loop μ-loop
-loop-holds c = let p = c .before .before .pre in (0, listed-none _ _ (p .0) _ (p .2))
+loop-holds c = let p = c .before .before .pre in (0, passed-none _ _ (p .0) _ (p .2))
 
 name-requires : tie.Need-name-requires Inv-loop μ-loop
 name-requires c κs = simp (length-take, length-drop) (omega arith)
@@ -81,13 +81,13 @@ loop-again c =
     let m = c .before .before in
     let t = m .before .before .before .before in
     let l = t .before in
-    let fresh = listed-unmarked _ _ (l .loop .i) _ (l .loop .inv .1) _ (rw (name-is m) at (sym (m .mark .ensures .0) ∙ c .before .if2 .left)) in
-    (l .loop .inv .0 + 1, rw (m .mark .ensures .1, name-is m) (listed-next _ _ _ _ (l .loop .inv .1) (t .loop-test .taken) _ (size-is c) fresh))
+    let fresh = passed-unmarked _ _ (l .loop .i) _ (l .loop .inv .1) _ (rw (name-is m) at (sym (m .mark .ensures .0) ∙ c .before .if2 .left)) in
+    (l .loop .inv .0 + 1, rw (m .mark .ensures .1, name-is m) (passed-next _ _ _ _ (l .loop .inv .1) (t .loop-test .taken) _ (size-is c) fresh))
 
 returns-3 : tie.Need-returns-3 Inv-loop μ-loop
 returns-3 c = (
-  sym (listed-all _ _ _ _ (c .before .loop .inv .1) (c .loop-test .left)),
-  λ h. listed-marks _ _ _ _ (c .before .loop .inv .1) (c .loop-test .left),
+  sym (passed-all _ _ _ _ (c .before .loop .inv .1) (c .loop-test .left)),
+  λ h. passed-marks _ _ _ _ (c .before .loop .inv .1) (c .loop-test .left),
 )
 
 pub body-names-spec : {M : Type 1} → statement M

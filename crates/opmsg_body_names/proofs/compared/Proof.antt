@@ -12,7 +12,7 @@ use Rattle.wire.proofs.Parts.{rest-part}
 use Rattle.opmsg.specs.Names.{among}
 use Rattle.opmsg_body_names.specs.Inner.{nameText, namesOf}
 use Rattle.opmsg_body_names.proofs.Distinct.{not-accepted, marking-size}
-use Rattle.opmsg_body_names.proofs.Elements.{Reached, reached-size, reached-next, NamesPassed, listed-none, listed-unmarked, listed-again, listed-next, listed-all, listed-marks}
+use Rattle.opmsg_body_names.proofs.Elements.{Reached, reached-size, reached-next, NamesPassed, passed-none, passed-unmarked, passed-again, passed-next, passed-all, passed-marks}
 use Rattle.opmsg_body_names.proofs.compared.Statement.{statement}
 use Rattle.opmsg_body_names.proofs.compared.Tie as tie
 
@@ -42,7 +42,7 @@ fresh c =
     let l = L m in
     ⊎-elim
     (λ w. rw (name-is m) at (sym (w .3 .ensures) ∙ w .4 .left))
-    (λ w. listed-unmarked _ _ (l .loop .i) _ (l .loop .inv) _ (rw (name-is m) at (sym (m .mark .ensures .0) ∙ w .0 .left)))
+    (λ w. passed-unmarked _ _ (l .loop .i) _ (l .loop .inv) _ (rw (name-is m) at (sym (m .mark .ensures .0) ∙ w .0 .left)))
     (c .if1 .came)
 
 size-is : (c : tie.After-element-size Inv-loop μ-loop) →
@@ -62,7 +62,7 @@ next c =
     reached-next _ _ _ (t .before .loop .inv .reached) (t .loop-test .taken) _ (size-is c)
 
 loop-holds : tie.Need-loop-holds Inv-loop μ-loop
-loop-holds c = listed-none _ _ (c .before .before .pre .0) _ (length-replicate {A = ℕ} 32 0)
+loop-holds c = passed-none _ _ (c .before .before .pre .0) _ (length-replicate {A = ℕ} 32 0)
 
 name-requires : tie.Need-name-requires Inv-loop μ-loop
 name-requires c κs = simp (length-take, length-drop) (omega arith)
@@ -91,7 +91,7 @@ returns-2 c =
     let l = L m in
     let xs = S l .args .xs .now in
     let e : among (take (l .loop .k) (namesOf xs)) (nameText (drop (l .loop .i) xs)) ≡ true = rw (name-is m) at (sym (n .named .ensures) ∙ c .before .if3 .taken) in (
-      rw (c .refused .ensures) (sym (listed-again _ _ (l .loop .i) _ (l .loop .inv) (m .before .before .before .before .loop-test .taken) e)),
+      rw (c .refused .ensures) (sym (passed-again _ _ (l .loop .i) _ (l .loop .inv) (m .before .before .before .before .loop-test .taken) e)),
       λ h. not-accepted (c .refused .ensures) h,
     )
 
@@ -108,12 +108,12 @@ loop-again : tie.Need-loop-again Inv-loop μ-loop
 loop-again c =
     let m = c .before .before in
     let t = m .before .before .before .before in
-    rw (m .mark .ensures .1, name-is m) (listed-next _ _ _ _ (t .before .loop .inv) (t .loop-test .taken) _ (size-is c) (fresh (c .before)))
+    rw (m .mark .ensures .1, name-is m) (passed-next _ _ _ _ (t .before .loop .inv) (t .loop-test .taken) _ (size-is c) (fresh (c .before)))
 
 returns-3 : tie.Need-returns-3 Inv-loop μ-loop
 returns-3 c = (
-  sym (listed-all _ _ _ _ (c .before .loop .inv) (c .loop-test .left)),
-  λ h. listed-marks _ _ _ _ (c .before .loop .inv) (c .loop-test .left),
+  sym (passed-all _ _ _ _ (c .before .loop .inv) (c .loop-test .left)),
+  λ h. passed-marks _ _ _ _ (c .before .loop .inv) (c .loop-test .left),
 )
 
 pub compared-spec : {M : Type 1} → statement M
