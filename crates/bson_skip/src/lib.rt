@@ -4,11 +4,11 @@ use bson_values::Kind;
 use bson_values::Lookup;
 use bson_values::kind_of;
 use bson_values::regex;
-use wire::until_zero;
 use wire::word;
 ghost use mathlib.Core.Path.{_≡_};
 ghost use Prim.Native.Nat.{ℕ, _<_, _≤_};
-ghost use lib.ListN.{length};
+ghost use lib.ListN.{length, drop};
+ghost use Rattle.wire.specs.Bytes.{untilZero};
 ghost use Rattle.wire.specs.Outcome.{ok};
 ghost use Rattle.bson_values.specs.Value.{Value};
 ghost use Rattle.bson_values.specs.Inner.{extent, ruleOf};
@@ -41,24 +41,15 @@ fn skip(k: Kind, s: &[u8]) -> usize
     }
 }
 
-// How many bytes the element at the start of s takes, which was read: by the lengths that it states, and nothing is checked again.
-pub fn element_size(s: &[u8]) -> usize
-    ensures { λ r. ⌜ (0 < elementSize (now (s .entry)) → elementSize (now (s .entry)) ≤ length (now (s .entry)) → r ≡ elementSize (now (s .entry))) ⌝ }
+// How many bytes the element at the start of s takes, which was read and whose name has n bytes: by the lengths that it states, and
+// nothing is checked again.
+pub fn element_size(s: &[u8], n: usize) -> usize
+    requires { ⌜ (n ≡ untilZero (drop 1 (now s))) × (0 < elementSize (now s)) × (elementSize (now s) ≤ length (now s)) ⌝ }
+    ensures { λ r. ⌜ r ≡ elementSize (now (s .entry)) ⌝ }
 {
-    if s.len() == 0 {
-        return 0;
-    }
-    let n = until_zero(&s[1..]);
-    if s.len() <= n + 1 {
-        return 0;
-    }
     let start = n + 2;
     let Lookup::Listed(kind) = kind_of(s[0]) else {
         return 0;
     };
-    let size = skip(kind, &s[start..]);
-    if s.len() - start < size {
-        return 0;
-    }
-    start + size
+    start + skip(kind, &s[start..])
 }

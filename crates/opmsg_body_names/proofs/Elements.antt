@@ -13,8 +13,9 @@ use Rattle.wire.specs.Outcome.{ok, refused}
 use Rattle.bson_elements.specs.Element.{elementSize}
 use Rattle.opmsg.specs.Names.{Name, sameText, among, distinct, elementNames, texts}
 use Rattle.opmsg.specs.Inner.{Filled, none, more}
-pub use Rattle.opmsg_name_tables.proofs.Names.{names-turns, names-of, all-names}
-use Rattle.opmsg_name_tables.proofs.Names.{filled-next, nameAt, names-end, names-next}
+pub use Rattle.opmsg_element_names.proofs.Names.{names-turns, names-of, all-names}
+use Rattle.opmsg_element_names.proofs.Names.{filled-next, nameAt, names-end, names-next}
+use Rattle.opmsg_element_names.specs.Inner.{Read}
 use Rattle.opmsg_body_names.specs.Inner.{nameText, namesOf, slotOf, marked, marking, Marks}
 use Rattle.opmsg_body_names.proofs.Texts.{same-text, among-cons, take-cons, drop-next, texts-take}
 use Rattle.opmsg_body_names.proofs.Distinct.{slot-small, mark-made, mark-stays, marking-size, marks-none, Met, met-none, met-unmarked, met-next, met-again, met-all, met-marks}
@@ -38,19 +39,22 @@ module _ (xs : List ℕ) (i turns : ℕ) (r : Reached xs i turns) where
     some = rw (length-drop i xs) (omega arith)
 
     -- the element at place i was read
-    pub reached-size : (0 < elementSize (drop i xs)) × (elementSize (drop i xs) ≤ length (drop i xs))
-    reached-size = let p = filled-next (r .filled) some in (p .0, p .1)
+    pub reached-read : Read xs i
+    reached-read = let p = filled-next (r .filled) some in (p .0, p .1)
 
-    reached-names : (at size : ℕ) → size ≡ elementSize (drop i xs)
-        → elementNames turns at (drop i xs) ≡ nameAt at (drop i xs) ∷ elementNames (turns - 1) (at + size) (drop (i + size) xs)
-    reached-names at size e = names-next turns at (drop i xs) (omega (arith, r .enough)) some ∙ rw (← e, drop-drop size i xs)
+    module _ (end : ℕ) (e : end ≡ i + elementSize (drop i xs)) where
+      rest : drop (elementSize (drop i xs)) (drop i xs) ≡ drop end xs
+      rest = rw (drop-drop, e)
 
-    pub reached-next : (size : ℕ) → size ≡ elementSize (drop i xs) → (0 < size) × Reached xs (i + size) (turns - 1)
-    reached-next size e =
-        let p = filled-next (r .filled) some in
-        let a : 0 < size = rw e (p .0) in
-        let b : size ≤ length xs - i = rw (e, ← length-drop i xs) (p .1) in
-        (a, record { within = omega (arith, r .within); enough = omega (arith, r .enough); filled = rw (← drop-drop size i xs, e) (p .2) })
+      reached-names : (at : ℕ) → elementNames turns at (drop i xs) ≡ nameAt at (drop i xs) ∷ elementNames (turns - 1) (at + (end - i)) (drop end xs)
+      reached-names at =
+          let place : at + elementSize (drop i xs) ≡ at + (end - i) = omega arith in
+          names-next turns at (drop i xs) (omega (arith, r .enough)) some ∙ rw (place, rest)
+
+      pub reached-next : Reached xs end (turns - 1)
+      reached-next =
+          let p = filled-next (r .filled) some in
+          record { within = omega (arith, p .1, length-drop i xs); enough = omega (arith, r .enough, p .0); filled = rw (← rest) (p .2) }
 
 -- ---- a text is looked for among the first k names: it is among the next `left` of those from place i on
 
@@ -74,21 +78,20 @@ module _ (xs : List ℕ) (k : ℕ) (text : List ℕ) (i left : ℕ) (s : Sought 
 
   module _ (inside : i < length xs) (any : 0 < left) where
     -- the next name is compared, and then the rest
-    next : (size : ℕ) → size ≡ elementSize (drop i xs)
-        → among (take k (namesOf xs)) text
-        ≡ among (nameText (drop i xs) ∷ take (left - 1) (texts (elementNames (s .turns - 1) (s .at + size) (drop (i + size) xs)))) text
+    next : (end : ℕ) → end ≡ i + elementSize (drop i xs)
+        → among (take k (namesOf xs)) text ≡ among (nameText (drop i xs) ∷ take (left - 1) (texts (elementNames (s .turns - 1) (s .at + (end - i)) (drop end xs)))) text
     unfolding texts
-    next size e = s .same ∙ rw (reached-names xs i (s .turns) (s .reached) inside (s .at) size e, take-cons left (nameText (drop i xs)) (texts (elementNames (s .turns - 1) (s .at + size) (drop (i + size) xs))) any)
+    next end e = s .same ∙ rw (reached-names xs i (s .turns) (s .reached) inside end e (s .at), take-cons left (nameText (drop i xs)) (texts (elementNames (s .turns - 1) (s .at + (end - i)) (drop end xs))) any)
 
     pub sought-found : sameText text (nameText (drop i xs)) ≡ true → among (take k (namesOf xs)) text ≡ true
     sought-found h = next _ refl ∙ among-cons _ _ _ ∙ rw h
 
-    pub sought-next : (size : ℕ) → size ≡ elementSize (drop i xs) → sameText text (nameText (drop i xs)) ≡ false → Sought xs k text (i + size) (left - 1)
-    sought-next size e h = record {
+    pub sought-next : (end : ℕ) → end ≡ i + elementSize (drop i xs) → sameText text (nameText (drop i xs)) ≡ false → Sought xs k text end (left - 1)
+    sought-next end e h = record {
       turns = s .turns - 1;
-      at = s .at + size;
-      reached = reached-next xs i (s .turns) (s .reached) inside size e .1;
-      same = next size e ∙ among-cons _ _ _ ∙ rw h;
+      at = s .at + (end - i);
+      reached = reached-next xs i (s .turns) (s .reached) inside end e;
+      same = next end e ∙ among-cons _ _ _ ∙ rw h;
     }
 
 -- ---- the elements before place i of xs, k of them, have names that differ
@@ -116,27 +119,27 @@ module _ (at : ℕ) (xs : List ℕ) where
     passed-unmarked t h = rw before at (met-unmarked 23 [] (elementNames (length xs) at xs) k (l .met) t h)
 
     module _ (inside : i < length xs) where
-      name : (size : ℕ) → size ≡ elementSize (drop i xs)
-          → drop k (elementNames (length xs) at xs) ≡ nameAt (at + i) (drop i xs) ∷ elementNames (l .turns - 1) (at + i + size) (drop (i + size) xs)
-      name size e = l .left ∙ reached-names xs i (l .turns) (l .reached) inside (at + i) size e
+      name : (end : ℕ) → end ≡ i + elementSize (drop i xs)
+          → drop k (elementNames (length xs) at xs) ≡ nameAt (at + i) (drop i xs) ∷ elementNames (l .turns - 1) (at + i + (end - i)) (drop end xs)
+      name end e = l .left ∙ reached-names xs i (l .turns) (l .reached) inside end e (at + i)
 
       -- the next name is there already
       pub passed-again : among (take k (namesOf xs)) (nameText (drop i xs)) ≡ true → distinct 23 [] (elementNames (length xs) at xs) ≡ refused 23 (at + i + 1)
       passed-again h = met-again 23 [] (elementNames (length xs) at xs) k (l .met) _ _ (name _ refl) (rw before h)
 
       -- the next name is new
-      pub passed-next : (size : ℕ) → size ≡ elementSize (drop i xs) → among (take k (namesOf xs)) (nameText (drop i xs)) ≡ false
-          → NamesPassed at xs (i + size) (k + 1) (marking marks (slotOf (nameText (drop i xs))))
-      passed-next size e h =
-          let r = reached-next xs i (l .turns) (l .reached) inside size e in
-          let place : at + i + size ≡ at + (i + size) = omega arith in
+      pub passed-next : (end : ℕ) → end ≡ i + elementSize (drop i xs) → among (take k (namesOf xs)) (nameText (drop i xs)) ≡ false
+          → NamesPassed at xs end (k + 1) (marking marks (slotOf (nameText (drop i xs))))
+      passed-next end e h =
+          let w = reached-read xs i (l .turns) (l .reached) inside in
+          let place : at + i + (end - i) ≡ at + end = omega arith in
           record {
             turns = l .turns - 1;
-            reached = r .1;
+            reached = reached-next xs i (l .turns) (l .reached) inside end e;
             whole = l .whole;
-            few = omega (arith, l .few, r .0);
-            left = drop-next k (elementNames (length xs) at xs) (name size e) ∙ rw place;
-            met = met-next 23 [] (elementNames (length xs) at xs) k (l .met) _ _ (name size e) (rw before h);
+            few = omega (arith, l .few, w .0);
+            left = drop-next k (elementNames (length xs) at xs) (name end e) ∙ rw place;
+            met = met-next 23 [] (elementNames (length xs) at xs) k (l .met) _ _ (name end e) (rw before h);
           }
 
     -- no element is left
@@ -163,34 +166,37 @@ unfolding namesOf
 marking-none xs marks f h = record { turns = length xs; reached = reached-none xs f; size = h; shows = λ t e. rw e (or-true (marked marks (slotOf t))) }
 
 module _ (xs : List ℕ) (i : ℕ) (marks : List ℕ) (m : Marking xs i marks) where
-  pub marking-next : i < length xs → (size : ℕ) → size ≡ elementSize (drop i xs) → Marking xs (i + size) (marking marks (slotOf (nameText (drop i xs))))
-  marking-next inside size e = record {
-    turns = m .turns - 1;
-    reached = reached-next xs i (m .turns) (m .reached) inside size e .1;
-    size = marking-size marks _ ∙ m .size;
-    shows = λ t h. go t (marked marks (slotOf t)) refl (sameText t name) refl (rw (names, among-cons) at (m .shows t h));
-  }
-    where
-      name : List ℕ
-      name = nameText (drop i xs)
+  module _ (inside : i < length xs) (end : ℕ) (e : end ≡ i + elementSize (drop i xs)) where
+    abbrev first : List ℕ
+    first = nameText (drop i xs)
 
-      rest : List (List ℕ)
-      rest = texts (elementNames (m .turns - 1) (i + size) (drop (i + size) xs))
+    abbrev others : List (List ℕ)
+    others = texts (elementNames (m .turns - 1) end (drop end xs))
 
-      names : texts (elementNames (m .turns) i (drop i xs)) ≡ nameText (drop i xs) ∷ texts (elementNames (m .turns - 1) (i + size) (drop (i + size) xs))
-      names = rw (reached-names xs i (m .turns) (m .reached) inside i size e) (unfold texts in refl)
+    from-first : texts (elementNames (m .turns) i (drop i xs)) ≡ first ∷ others
+    from-first =
+        let place : i + (end - i) ≡ end = omega arith in
+        rw (reached-names xs i (m .turns) (m .reached) inside end e i, place) (unfold texts in refl)
 
-      slot : slotOf (nameText (drop i xs)) / 64 < length marks
-      slot = omega (arith, m .size, slot-small (nameText (drop i xs)))
+    slot : slotOf first / 64 < length marks
+    slot = omega (arith, m .size, slot-small first)
 
-      go : (t : List ℕ) (a : Bool) → marked marks (slotOf t) ≡ a → (b : Bool) → sameText t (nameText (drop i xs)) ≡ b
-          → (marked marks (slotOf t) || (sameText t (nameText (drop i xs)) || among (texts (elementNames (m .turns - 1) (i + size) (drop (i + size) xs))) t)) ≡ true
-          → (marked (marking marks (slotOf (nameText (drop i xs)))) (slotOf t) || among (texts (elementNames (m .turns - 1) (i + size) (drop (i + size) xs))) t) ≡ true
-      go t true p b q h = rw (mark-stays marks (slotOf (nameText (drop i xs))) (slotOf t) slot p)
-      go t false p true q h = rw (same-text t (nameText (drop i xs)) q, mark-made marks (slotOf (nameText (drop i xs))) slot)
-      go t false p false q h =
-          let r : among (texts (elementNames (m .turns - 1) (i + size) (drop (i + size) xs))) t ≡ true = rw (p, q) at h in
-          rw r (or-true (marked (marking marks (slotOf (nameText (drop i xs)))) (slotOf t)))
+    pub marking-next : Marking xs end (marking marks (slotOf (nameText (drop i xs))))
+    marking-next = record {
+      turns = m .turns - 1;
+      reached = reached-next xs i (m .turns) (m .reached) inside end e;
+      size = marking-size marks _ ∙ m .size;
+      shows = λ t h. go t (marked marks (slotOf t)) refl (sameText t first) refl (rw (from-first, among-cons) at (m .shows t h));
+    }
+      where
+        go : (t : List ℕ) (a : Bool) → marked marks (slotOf t) ≡ a → (b : Bool) → sameText t first ≡ b
+            → (marked marks (slotOf t) || (sameText t first || among others t)) ≡ true
+            → (marked (marking marks (slotOf first)) (slotOf t) || among others t) ≡ true
+        go t true p b q h = rw (mark-stays marks (slotOf first) (slotOf t) slot p)
+        go t false p true q h = rw (same-text t first q, mark-made marks (slotOf first) slot)
+        go t false p false q h =
+            let r : among others t ≡ true = rw (p, q) at h in
+            rw r (or-true (marked (marking marks (slotOf first)) (slotOf t)))
 
   pub marking-all : length xs ≤ i → Marks (namesOf xs) marks
   marking-all h = record { size = m .size; shows = λ t e. rw (none-left t, or-false) at (m .shows t e) }

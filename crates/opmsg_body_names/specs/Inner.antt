@@ -9,7 +9,7 @@ use lib.Bits.{bitAnd, bitOr}
 use lib.Dec.{eqb}
 use Rattle.wire.specs.Bytes.{word}
 use Rattle.opmsg.specs.Names.{among}
-unfoldable pub use Rattle.opmsg_name_tables.specs.Inner.{nameText, namesOf}
+unfoldable pub use Rattle.opmsg_element_names.specs.Inner.{nameText, namesOf}
 
 -- where the mark of a text stands: by its first bytes and its last ones
 abbrev pub spread : ℕ → ℕ → ℕ

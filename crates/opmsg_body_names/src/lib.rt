@@ -1,8 +1,8 @@
 // Check 23: names of elements that must differ.
-use bson_skip::element_size;
 use opmsg::Verdict;
 use opmsg::refused;
-use opmsg_name_tables::name;
+use opmsg_element_names::name;
+use opmsg_element_names::next;
 use opmsg_name_tables::names_differ;
 use wire::word;
 ghost use mathlib.Core.List.{[]};
@@ -89,11 +89,11 @@ pub fn named(xs: &[u8], k: usize, text: &[u8]) -> bool
         if left == 0 {
             return false;
         }
-        let rest = &xs[i..];
-        if same(text, name(rest)) {
+        let other = name(xs, i);
+        if same(text, other) {
             return true;
         }
-        i += element_size(rest);
+        i = next(xs, i, other.len());
         left -= 1;
     }
     false
@@ -107,10 +107,10 @@ fn mark_all(xs: &[u8], marks: &mut [u64; 32]) -> usize
     let mut number: usize = 0;
     let mut i: usize = 0;
     while i < xs.len() {
-        let rest = &xs[i..];
-        mark(marks, name(rest));
+        let text = name(xs, i);
+        mark(marks, text);
         number += 1;
-        i += element_size(rest);
+        i = next(xs, i, text.len());
     }
     number
 }
@@ -152,8 +152,7 @@ fn compared(xs: &[u8], at: usize, marks: &mut [u64; 32]) -> Verdict
     let mut k: usize = 0;
     let mut i: usize = 0;
     while i < xs.len() {
-        let rest = &xs[i..];
-        let text = name(rest);
+        let text = name(xs, i);
         if mark(marks, text) {
             if past(vain, VAIN, xs.len()) {
                 return by_tables(xs, at, marks);
@@ -164,7 +163,7 @@ fn compared(xs: &[u8], at: usize, marks: &mut [u64; 32]) -> Verdict
             vain = one_more(vain, VAIN + 1);
         }
         k += 1;
-        i += element_size(rest);
+        i = next(xs, i, text.len());
     }
     Verdict::Accepted
 }
@@ -180,11 +179,11 @@ pub fn body_names(xs: &[u8], at: usize, marks: &mut [u64; 32]) -> Verdict
     }
     let mut i: usize = 0;
     while i < xs.len() {
-        let rest = &xs[i..];
-        if mark(marks, name(rest)) {
+        let text = name(xs, i);
+        if mark(marks, text) {
             return compared(xs, at, marks);
         }
-        i += element_size(rest);
+        i = next(xs, i, text.len());
     }
     Verdict::Accepted
 }
