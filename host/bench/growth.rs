@@ -135,16 +135,20 @@ fn print_growth(all: &[Growth]) {
     }
 }
 
-/// What a name of each family costs the library, by what a usual one costs.
+/// What a name of each family costs the library, by what a usual one of the
+/// same length costs.
 fn print_beside_usual(all: &[Growth]) {
     println!();
-    println!("The library's cost of a name, by that of a usual one:");
+    println!("The library's cost of a name, by that of a usual one of the same length:");
     println!(
         "{:<28}{:>9}{:>9}{:>9}",
         "family", "16 names", "32 names", "64 names"
     );
-    let usual = &all[0];
-    for growth in &all[1..] {
+    for growth in all {
+        let usual = all
+            .iter()
+            .find(|other| other.family == growth.family.usual())
+            .expect("measured");
         let ratios = [16, 32, 64].map(|count| growth.at(count)[0] / usual.at(count)[0]);
         let words = growth.family.words();
         println!(

@@ -18,6 +18,9 @@ ghost use Rattle.opmsg_body_names.specs.Inner.{namesOf, spread, slotOf, 
 // How often marks are met in vain before tables are made.
 const VAIN: usize = 3;
 
+// How many names to compare with are as dear as one more mark in vain.
+const MANY: usize = 64;
+
 // The most bytes of a body whose names are likely to meet no mark.
 const LONG: usize = 0x1_0000;
 
@@ -135,9 +138,13 @@ fn past(n: usize, bound: usize, size: usize) -> bool
     false
 }
 
-// One more, up to a bound.
-fn one_more(n: usize, bound: usize) -> usize {
-    if n < bound { n + 1 } else { n }
+// What was met in vain, with one more that was compared with k names: many of them count more.
+fn one_more(vain: usize, k: usize) -> usize {
+    if vain <= VAIN {
+        vain + 1 + k / MANY
+    } else {
+        vain
+    }
 }
 
 // Check 23 of a body's elements xs, the first at a place, where marks are met. A name whose mark is met is compared with those
@@ -160,7 +167,7 @@ fn compared(xs: &[u8], at: usize, marks: &mut [u64; 32]) -> Verdict
             if named(xs, k, text) {
                 return refused(23, at + i + 1);
             }
-            vain = one_more(vain, VAIN + 1);
+            vain = one_more(vain, k);
         }
         k += 1;
         i = next(xs, i, text.len());

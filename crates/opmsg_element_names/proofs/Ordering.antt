@@ -148,6 +148,11 @@ module _ (a l : List ℕ) (without : WithoutZero a) where
       same = below-more _ _ (g .same) e;
     }
 
+  pub agreed-first : (i : ℕ) → i ≤ length a → i ≤ length l → ((k : ℕ) → k < i → getD a k 0 ≡ getD l k 0) → Agreed a l i
+  agreed-first zero h n s = agreed-none
+  agreed-first (suc i) h n s = rw (← add-one i) (agreed-more i (agreed-first i (omega arith) (omega arith) (λ k b. s k (omega arith))) (omega arith) (omega arith) (s i (omega arith)))
+
+  module _ (i : ℕ) (g : Agreed a l i) where
     -- the text ends, and so does the name
     pub agreed-all : length a ≤ i → getD l i 0 ≡ 0 → a ≡ front l
     agreed-all h z = go (ltb i (untilZero l)) refl
@@ -156,4 +161,4 @@ module _ (a l : List ℕ) (without : WithoutZero a) where
         go true e = absurd (not-zero l i (ltb-true i (untilZero l) e) z)
         go false e =
             let p = ltb-false i (untilZero l) e in
-            ext-getD 0 a (front l) (omega (arith, front-length l, g .within, g .inside)) (λ k n. keys k (omega arith))
+            ext-getD 0 a (front l) (omega (arith, front-length l, g .within, g .inside)) (λ k n. keys i g k (omega arith))

@@ -1,9 +1,10 @@
 // The names of elements that were read: where they stand, where the next element starts, and which of two texts comes first.
 use bson_skip::element_size;
 use wire::until_zero;
+use wire::word;
 ghost use mathlib.Core.Path.{_≡_};
-ghost use Prim.Native.Nat.{_+_, _<_, _≤_};
-ghost use lib.ListN.{length, take, drop};
+ghost use Prim.Native.Nat.{ℕ, _+_, _<_, _≤_};
+ghost use lib.ListN.{length, getD, take, drop};
 ghost use Rattle.wire.specs.Bytes.{untilZero};
 ghost use Rattle.bson_elements.specs.Element.{elementSize};
 ghost use Rattle.opmsg_element_names.specs.Inner.{Read, WithoutZero, textAt, Ordered};
@@ -35,12 +36,30 @@ pub fn next(xs: &[u8], place: usize, n: usize) -> usize
     place + element_size(&xs[place..], n)
 }
 
+// How many bytes two runs have in common at their start, or some fewer: by four at a time.
+fn common(a: &[u8], b: &[u8]) -> usize
+    ensures within { λ r. ⌜ (r ≤ length (now (a .entry))) × (r ≤ length (now (b .entry))) ⌝ }
+    ensures same { λ r. ⌜ ((k : ℕ) → k < r → getD (now (a .entry)) k 0 ≡ getD (now (b .entry)) k 0) ⌝ }
+{
+    let mut i: usize = 0;
+    while 4 <= a.len() - i {
+        if b.len() - i < 4 {
+            return i;
+        }
+        if word(&a[i..]) != word(&b[i..]) {
+            return i;
+        }
+        i += 4;
+    }
+    i
+}
+
 // Which comes first, a text or the name that the bytes begin with: that with the lower byte where they first differ.
 fn compare(text: &[u8], bytes: &[u8]) -> Order
     requires { ⌜ WithoutZero (now text) ⌝ }
     ensures { λ r. ⌜ Ordered (now (text .entry)) (take (untilZero (now (bytes .entry))) (now (bytes .entry))) r ⌝ }
 {
-    let mut i: usize = 0;
+    let mut i = common(text, bytes);
     while i < text.len() {
         if bytes.len() <= i {
             return Order::After;

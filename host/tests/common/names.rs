@@ -13,6 +13,10 @@ use std::collections::HashSet;
 pub enum Family {
     /// `field00001` and so on.
     Usual,
+    /// The same behind 38 bytes that all names share.
+    LongUsual,
+    /// Two letters again and again, so that all lengths differ.
+    UsualLengths,
     /// Names of one slot of [`mark`], which differ elsewhere.
     OneMark,
     /// Names with the same first four, last four and middle four bytes, in
@@ -20,8 +24,10 @@ pub enum Family {
     OneSlot,
     /// The same in falling order.
     Falling,
-    /// Thirty-two names in each slot of [`home`], as many as are kept near
-    /// one, and the last name is one too many; all are in falling order.
+    /// 48 bytes, the same but for two behind the middle, in rising order.
+    LongSlot,
+    /// Three names in each slot of [`home`], so that as many steps are made as
+    /// there are names, and the last ones are too many; in falling order.
     Full,
     /// Names that differ in the last two of 12 bytes.
     Prefix,
@@ -37,11 +43,14 @@ pub enum Family {
 }
 
 impl Family {
-    pub const ALL: [Family; 10] = [
+    pub const ALL: [Family; 13] = [
         Family::Usual,
+        Family::LongUsual,
+        Family::UsualLengths,
         Family::OneMark,
         Family::OneSlot,
         Family::Falling,
+        Family::LongSlot,
         Family::Full,
         Family::Prefix,
         Family::LongPrefix,
@@ -53,15 +62,29 @@ impl Family {
     pub fn words(self) -> &'static str {
         match self {
             Family::Usual => "usual",
+            Family::LongUsual => "usual, 48 bytes",
+            Family::UsualLengths => "usual, all lengths differ",
             Family::OneMark => "one slot of the marks",
             Family::OneSlot => "one slot of both",
             Family::Falling => "one slot of both, falling",
+            Family::LongSlot => "one slot of both, 48 bytes",
             Family::Full => "full slots, falling",
             Family::Prefix => "common prefix, 12 bytes",
             Family::LongPrefix => "common prefix, 48 bytes",
             Family::Suffix => "common suffix, 12 bytes",
             Family::LongSuffix => "common suffix, 48 bytes",
             Family::Lengths => "all lengths differ",
+        }
+    }
+
+    /// Usual names of the same lengths, or nearly so.
+    pub fn usual(self) -> Family {
+        match self {
+            Family::LongUsual | Family::LongSlot | Family::LongPrefix | Family::LongSuffix => {
+                Family::LongUsual
+            }
+            Family::UsualLengths | Family::Lengths => Family::UsualLengths,
+            _ => Family::Usual,
         }
     }
 
@@ -81,8 +104,8 @@ impl Family {
     fn name_length(self, index: usize) -> usize {
         match self {
             Family::Usual | Family::OneMark => 10,
-            Family::LongPrefix | Family::LongSuffix => 48,
-            Family::Lengths => index + 1,
+            Family::LongUsual | Family::LongSlot | Family::LongPrefix | Family::LongSuffix => 48,
+            Family::UsualLengths | Family::Lengths => index + 1,
             _ => 12,
         }
     }
@@ -107,14 +130,23 @@ impl Family {
         let length = self.name_length(index);
         let two = two(index);
         match self {
-            Family::Usual => format!("field{:05}", index + 1).into_bytes(),
+            Family::Usual => usual(index),
+            Family::LongUsual => [&common(40)[..], &usual(index)].concat(),
+            Family::UsualLengths => two.iter().copied().cycle().take(length).collect(),
             Family::OneSlot => [b"part", &two[..], b"number"].concat(),
+            Family::LongSlot => {
+                [&common(40)[..], &two[..], b"behind it"][..].concat()[..48].to_vec()
+            }
             Family::Prefix | Family::LongPrefix => [&common(length), &two[..]].concat(),
             Family::Suffix | Family::LongSuffix => [&two[..], &common(length)].concat(),
             Family::Lengths => vec![b'n'; length],
             _ => unreachable!("made together"),
         }
     }
+}
+
+fn usual(index: usize) -> Vec<u8> {
+    format!("field{:05}", index + 1).into_bytes()
 }
 
 /// 64 letters in rising order.
@@ -125,7 +157,7 @@ fn two(index: usize) -> [u8; 2] {
     [LETTERS[index / 64], LETTERS[index % 64]]
 }
 
-/// What names of this length have in common.
+/// What names of this length have in common, but for two bytes.
 fn common(length: usize) -> Vec<u8> {
     b"measurement."
         .iter()
@@ -150,32 +182,35 @@ fn of_one_mark(count: usize) -> Vec<Vec<u8>> {
     names
 }
 
-/// So many names in falling order, thirty-two for each slot but for the last
-/// name, whose slot is full.
+/// So many names in falling order, three for each slot, and up to three that
+/// stand behind such.
 fn full_slots(count: usize) -> Vec<Vec<u8>> {
     let name = |which, group| -> [u8; 12] {
         let bytes = [b"part", &two(which)[..], &two(group), b"mber"].concat();
         bytes.try_into().expect("12 bytes")
     };
-    // Groups whose slots are thirty-two apart, so that none fills another's.
-    let mut groups: Vec<usize> = Vec::new();
-    let mut group = 0;
-    while 32 * groups.len() + 1 < count {
-        let slot = home(&name(0, group));
-        if groups
-            .iter()
-            .all(|&g| slot.abs_diff(home(&name(0, g))) >= 32)
-        {
-            groups.push(group);
-        }
-        group += 1;
-    }
+    // Groups whose slots are three apart, so that none fills another's.
+    let mut taken = HashSet::new();
+    let groups: Vec<usize> = (0..4_096)
+        .filter(|&group| {
+            let slot = home(&name(0, group));
+            let apart = (slot.saturating_sub(2)..=slot + 2).all(|near| !taken.contains(&near));
+            apart && taken.insert(slot)
+        })
+        .take(count / 3 + 3)
+        .collect();
+    let full = count.saturating_sub(1) / 3;
     let mut names = Vec::new();
-    for which in (1..=32).rev() {
-        names.extend(groups.iter().rev().map(|&g| name(which, g).to_vec()));
+    for which in (1..=3).rev() {
+        names.extend(
+            groups[..full]
+                .iter()
+                .rev()
+                .map(|&g| name(which, g).to_vec()),
+        );
     }
-    names.truncate(count - 1);
-    names.push(name(0, groups.last().copied().unwrap_or(0)).to_vec());
+    let left = count - names.len();
+    names.extend(groups[..left].iter().rev().map(|&g| name(0, g).to_vec()));
     names
 }
 
@@ -191,10 +226,11 @@ fn mark(name: &[u8; 10]) -> u64 {
     (word(name, 0) + 3 * word(name, 6)) * 0x9E3_779B / 0x40_0000 % 2048
 }
 
-/// A slot of 8,192, made of the middle four bytes too, as the library makes
-/// it for its tables (`hash` and `home` in the crate opmsg_name_tables).
+/// A slot of 8,192, made of the length and the middle four bytes too, as the
+/// library makes it for its tables (`hash` and `home` in the crate
+/// opmsg_name_slots).
 fn home(name: &[u8; 12]) -> u64 {
-    let sum = word(name, 0) + 3 * word(name, 8) + 5 * word(name, 6);
+    let sum = 12 + word(name, 0) + 3 * word(name, 8) + 5 * word(name, 6);
     sum * 0x9E3_779B / 0x40_0000 % 8_192
 }
 

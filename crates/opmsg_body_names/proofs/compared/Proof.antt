@@ -106,7 +106,6 @@ compared-spec =
     (λ c. search needs)
     (λ c κs. search needs)
     returns-2
-    (λ c. search needs)
     (λ c κs. search needs)
     (λ c. omega arith)
     next-requires
