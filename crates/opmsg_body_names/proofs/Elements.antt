@@ -1,18 +1,16 @@
 -- Laws of the names of elements: one after the other, and whether a text is one of them.
 -- Assumes nothing.
-use Prim.Native.Nat.{ℕ, zero, suc, _+_, _-_, _/_, _≤_, _<_}
+use Prim.Native.Nat.{ℕ, _+_, _-_, _/_, _≤_, _<_}
 use mathlib.Core.Bool.{Bool, true, false, _||_, or-true, or-false}
-use mathlib.Core.Path.{_≡_, refl, sym, _∙_, ap}
+use mathlib.Core.Path.{_≡_, refl, _∙_, ap}
 use mathlib.Core.List.{List, [], _∷_}
-use native.Mathlib.Numerals.{sub-one}
 use native.Mathlib.Omega.{arith}
-use lib.ListN.{length, take, drop, length-drop, length-map, drop-of-length-le}
-use lib.Seq.{drop-drop, take-all, take-nil}
-use borrow.Author.Tests.{ne-eqb}
+use lib.ListN.{length, take, drop, length-drop, drop-of-length-le}
+use lib.Seq.{drop-drop, take-nil}
 use Rattle.wire.specs.Outcome.{ok, refused}
 use Rattle.bson_elements.specs.Element.{elementSize}
-use Rattle.opmsg.specs.Names.{Name, sameText, among, distinct, elementNames, texts}
-use Rattle.opmsg.specs.Inner.{Filled, none, more}
+use Rattle.opmsg.specs.Names.{sameText, among, distinct, elementNames, texts}
+use Rattle.opmsg.specs.Inner.{Filled, none}
 pub use Rattle.opmsg_element_names.proofs.Names.{names-turns, names-of, all-names}
 use Rattle.opmsg_element_names.proofs.Names.{filled-next, nameAt, names-end, names-next}
 use Rattle.opmsg_element_names.specs.Inner.{Read}

@@ -15,8 +15,8 @@ use Rattle.wire.proofs.Outcome.{pass, stop}
 use Rattle.bson_elements.specs.Element.{elementSize}
 use Rattle.opmsg.specs.Names.{Name, sameText, among, distinct, elementNames}
 use Rattle.opmsg.specs.Inner.{Filled, none}
-use Rattle.opmsg_element_names.specs.Inner.{nameText, startOf, nameOf, First}
-use Rattle.opmsg_element_names.proofs.Texts.{not-both, same-text, among-cons, drop-next}
+use Rattle.opmsg_element_names.specs.Inner.{startOf, nameOf, First}
+use Rattle.opmsg_element_names.proofs.Texts.{same-text, among-cons}
 use Rattle.opmsg_element_names.proofs.Names.{filled-next, nameAt, names-end, names-next, names-turns, names-few}
 
 -- a text is the name of one of the first n elements

@@ -1,6 +1,6 @@
 -- Laws of a block: its names are entered into a table one after the other, and later ones are looked up.
 -- Assumes nothing.
-use Prim.Native.Nat.{ℕ, zero, suc, _+_, _-_, _<_, _≤_}
+use Prim.Native.Nat.{ℕ, _+_, _-_, _<_, _≤_}
 use mathlib.Core.Bool.{Bool, true, false}
 use mathlib.Core.List.{List}
 use mathlib.Core.Path.{_≡_, refl, sym, _∙_, ap}
@@ -10,7 +10,7 @@ use lib.Dec.{ltb, eqb}
 use borrow.Author.Tests.{ltb-true, ltb-false, eqb-true, eqb-false}
 use Rattle.bson_elements.specs.Element.{elementSize}
 use Rattle.opmsg.specs.Inner.{Filled}
-use Rattle.opmsg_element_names.specs.Inner.{Less, Read, textAt, startOf, nameOf, Again, First}
+use Rattle.opmsg_element_names.specs.Inner.{Less, Read, textAt, startOf, nameOf, First}
 use Rattle.opmsg_name_blocks.specs.Inner.{entry, Sorted, Between, Entered, Inserted, Cleared}
 use Rattle.opmsg_element_names.proofs.Ordering.{less-other}
 use Rattle.opmsg_element_names.proofs.Starts.{Drawn, start-next, start-mono, start-before, start-whole, start-later}

@@ -1,17 +1,17 @@
 -- Laws of a table of places sorted by the names there.
 -- Assumes nothing.
-use Prim.Native.Nat.{ℕ, zero, suc, _+_, _-_, _<_, _≤_}
+use Prim.Native.Nat.{ℕ, _+_, _-_, _<_, _≤_}
 use mathlib.Core.Bool.{Bool, true, false}
 use mathlib.Core.List.{List}
-use mathlib.Core.Path.{_≡_, refl, sym, _∙_}
+use mathlib.Core.Path.{_≡_, refl, _∙_}
 use native.Mathlib.Omega.{arith}
 use lib.ListN.{length, getD, set, length-set}
 use lib.Seq.{getD-set-same, getD-set-other}
-use lib.Dec.{ltb, eqb}
-use borrow.Author.Tests.{ltb-true, ltb-false, eqb-true, eqb-false}
-use Rattle.opmsg_element_names.specs.Inner.{Less, textAt}
-use Rattle.opmsg_name_blocks.specs.Inner.{entry, Sorted, Between, Entered, Inserted}
-use Rattle.opmsg_element_names.proofs.Ordering.{less-trans, less-other}
+use lib.Dec.{eqb}
+use borrow.Author.Tests.{eqb-true, eqb-false}
+use Rattle.opmsg_element_names.specs.Inner.{Less}
+use Rattle.opmsg_name_blocks.specs.Inner.{entry, Sorted, Between, Inserted}
+use Rattle.opmsg_element_names.proofs.Ordering.{less-trans}
 
 -- ---- an entry is put in: those from place j on stand one place further
 

@@ -12,7 +12,7 @@ use lib.Dec.{ltb, eqb}
 use borrow.Author.Tests.{ltb-true, ltb-false, eqb-true, eqb-false}
 use Rattle.bson_elements.specs.Element.{elementSize}
 use Rattle.opmsg.specs.Inner.{Filled}
-use Rattle.opmsg_element_names.specs.Inner.{Read, textAt, startOf, nameOf, Again, First}
+use Rattle.opmsg_element_names.specs.Inner.{Read, textAt, startOf, nameOf, First}
 use Rattle.opmsg_name_slots.specs.Inner.{reach, hashOf, homeOf, held, Blank, Free, SlotHolds}
 use Rattle.opmsg_element_names.proofs.Starts.{Drawn, start-next, start-before, start-whole}
 

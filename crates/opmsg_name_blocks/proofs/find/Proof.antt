@@ -1,8 +1,7 @@
 -- `opmsg_name_blocks::find` meets its contract. The loop's invariant: what stands before `low` comes before the text, and what stands from `high` on after it.
 -- The measure is how far they are apart. Assumes nothing.
-use Prim.Native.Nat.{ℕ, _+_, _-_, _/_, _<_}
+use Prim.Native.Nat.{ℕ, _+_, _-_, _/_}
 use native.Mathlib.Omega.{arith}
-use lib.ListN.{length, getD}
 use borrow.Author.Needs.{needs}
 use Rattle.opmsg_name_blocks.proofs.Table.{Narrowed, narrowed-none, narrowed-left, narrowed-right, narrowed-all}
 use Rattle.opmsg_name_blocks.proofs.find.Statement.{statement}

@@ -2,7 +2,6 @@
 -- The measure is how far j is from i. Assumes nothing.
 use Prim.Native.Nat.{_-_}
 use native.Mathlib.Omega.{arith}
-use lib.ListN.{length}
 use Rattle.opmsg_name_blocks.proofs.Table.{Shifted, shifted-none, shifted-more, shifted-all}
 use Rattle.opmsg_name_blocks.proofs.insert.Statement.{statement}
 use Rattle.opmsg_name_blocks.proofs.insert.Tie as tie
