@@ -1,17 +1,16 @@
 -- Where documents are refused: with a number of document 01, at a place within the bytes that are read.
 -- Assumes nothing.
 use Prim.Native.Nat.{ℕ, zero, suc, _+_, _-_, _≤_, _<_}
-use mathlib.Core.Bool.{Bool, true, false}
-use mathlib.Core.List.{List, [], _∷_}
+use mathlib.Core.List.{List}
 use native.Mathlib.Omega.{arith}
 use lib.ListN.{length, getD, take, drop, length-take, length-drop}
 use borrow.Author.Tests.{leb-false, ltb-false}
-use Rattle.wire.specs.Outcome.{Outcome, ok}
-use Rattle.wire.specs.Bytes.{word, untilZero, oneOf}
+use Rattle.wire.specs.Outcome.{Outcome}
+use Rattle.wire.specs.Bytes.{word, untilZero}
 use Rattle.wire.specs.Walk.{Reader}
-use Rattle.wire.proofs.Meets.{Meets, good, fault, then, check, walk-meets}
-use Rattle.bson_values.specs.Value.{Value, plain, embedded, scoped, sized, boolean, cstring, string, binary, regex, pointer, codeWithScope, bytes, Rule, Row, table, ruleIn}
-use Rattle.bson_values.proofs.Value.{ValueWithin, Rules, none, _and_}
+use Rattle.wire.proofs.Meets.{Meets, good, fault, other-fault, then, check, walk-meets}
+use Rattle.bson_values.specs.Value.{Value, plain, embedded, scoped}
+use Rattle.bson_values.proofs.Value.{Only, ValueWithin, type-fits}
 use Rattle.bson_elements.specs.Element.{head, inside, element}
 use Rattle.bson.specs.Document.{frame, documentAt}
 use Rattle.bson.proofs.Frame.{frame-is}
@@ -26,84 +25,9 @@ abbrev pub UpTo : {A : Type 0} → (to : ℕ) → Outcome A → Type 0
 UpTo {A} to o = Meets (λ (_ : A). Unit {0}) (Fault to) o
 
 module _ (to : ℕ) where
-  -- ---- values: their fault is at their first byte
-
-  abbrev Bounds : {A : Type 0} → (ℕ → List ℕ → Outcome A) → Type 0
-  Bounds f = (v : ℕ) (xs : List ℕ) → v ≤ to → UpTo to (f v xs)
-
-  sized-bounds : (n : ℕ) → Bounds (λ v xs. sized v n xs)
-  unfolding sized
-  sized-bounds n v xs l = check 19 v _ _ (omega arith) λ _. good tt
-
-  boolean-bounds : Bounds boolean
-  unfolding boolean
-  boolean-bounds v xs l = check 19 v _ _ (omega arith) λ _. check 19 v _ _ (omega arith) λ _. good tt
-
-  cstring-bounds : Bounds cstring
-  unfolding cstring
-  cstring-bounds v xs l = check 19 v _ _ (omega arith) λ _. good tt
-
-  string-bounds : Bounds string
-  unfolding string
-  string-bounds v xs l =
-      check 19 v _ _ (omega arith) λ _.
-      check 19 v _ _ (omega arith) λ _.
-      check 19 v _ _ (omega arith) λ _.
-      check 19 v _ _ (omega arith) λ _.
-      good tt
-
-  binary-bounds : Bounds binary
-  unfolding binary
-  binary-bounds v xs l = check 19 v _ _ (omega arith) λ _. check 19 v _ _ (omega arith) λ _. check 19 v _ _ (omega arith) λ _. good tt
-
-  regex-bounds : Bounds regex
-  unfolding regex
-  regex-bounds v xs l = then _ (cstring-bounds v xs l) λ m _ _. then _ (cstring-bounds v (drop m xs) l) λ _ _ _. good tt
-
-  pointer-bounds : Bounds pointer
-  unfolding pointer
-  pointer-bounds v xs l = then _ (string-bounds v xs l) λ m _ _. then _ (sized-bounds 12 v (drop m xs) l) λ _ _ _. good tt
-
-  scope-bounds : Bounds codeWithScope
-  unfolding codeWithScope
-  scope-bounds v xs l =
-      check 19 v _ _ (omega arith) λ _.
-      check 19 v _ _ (omega arith) λ _.
-      check 19 v _ _ (omega arith) λ _.
-      then _ (string-bounds v (take (word xs - 4) (drop 4 xs)) l) λ _ _ _.
-      good tt
-
-  bytes-bounds : (f : ℕ → List ℕ → Outcome ℕ) → Bounds f → Bounds (λ v xs. bytes (f v xs))
-  bytes-bounds f b v xs l = then _ (b v xs l) λ _ _ _. good tt
-
-  abbrev Ruled : Rule → Type 0
-  Ruled rule = Bounds rule
-
-  table-bounds : Rules Ruled table
-  unfolding table
-  table-bounds =
-      bytes-bounds _ (sized-bounds 8)
-      and bytes-bounds _ (sized-bounds 4)
-      and bytes-bounds _ (sized-bounds 16)
-      and bytes-bounds _ (sized-bounds 12)
-      and bytes-bounds _ boolean-bounds
-      and bytes-bounds _ (sized-bounds 0)
-      and bytes-bounds _ string-bounds
-      and bytes-bounds _ binary-bounds
-      and bytes-bounds _ regex-bounds
-      and bytes-bounds _ pointer-bounds
-      and (λ v xs l. good tt)
-      and scope-bounds
-      and none
-
-  rule-meets : (rows : List Row) (at t : ℕ) → at ≤ to → Rules Ruled rows → Meets Ruled (Fault to) (ruleIn rows at t)
-  unfolding ruleIn
-  rule-meets [] at t l none = fault {number = 17} {place = at} (omega arith)
-  rule-meets (row ∷ rows) at t l (b and bs) = go (oneOf (row .types) t) (rule-meets rows at t l bs)
-    where
-      go : (c : Bool) → Meets Ruled (Fault to) (ruleIn rows at t) → Meets Ruled (Fault to) (elim c [ true ↦ ok (row .rule) | false ↦ ruleIn rows at t ])
-      go true ih = good b
-      go false ih = ih
+  -- an answer with one refusal alone, at a place within
+  only : {A : Type 0} {P : A → Type 0} {o : Outcome A} (n p : ℕ) → Fault to n p → Only n p P o → Meets P (Fault to) o
+  only n p f = other-fault (λ number place q. omega (arith, q .0, q .1, f .0, f .1, f .2))
 
   -- ---- elements
 
@@ -111,11 +35,11 @@ module _ (to : ℕ) where
   unfolding head
   head-bounded at xs count l =
       check 21 at _ _ (omega arith) λ _.
-      then _ (rule-meets table at (getD xs 0 0) (omega arith) table-bounds) λ rule _ b.
+      then _ (only 17 at (omega arith) (type-fits at at (getD xs 0 0))) λ rule _ b.
       check 18 (at + 1) _ _ (omega arith) λ f.
       let n = untilZero (drop 1 xs) in
       let some = leb-false (length xs) (1 + n) f in
-      then _ (b (at + (n + 2)) (drop (n + 2) xs) (omega arith)) λ _ _ _.
+      then _ (only 19 (at + (n + 2)) (omega arith) (b .1 (at + (n + 2)) 0 (drop (n + 2) xs))) λ _ _ _.
       good tt
 
   -- a reader of documents

@@ -12,6 +12,7 @@ use Rattle.wire.specs.Outcome.{ok}
 use Rattle.wire.specs.Bytes.{untilZero}
 use Rattle.wire.specs.Walk.{Step, step, Reader}
 use Rattle.wire.proofs.Outcome.{ok-same, went, passed, pass, bound, go-on}
+use Rattle.wire.proofs.Meets.{met}
 use Rattle.wire.proofs.Walk.{Advances, step-size}
 use Rattle.bson_values.specs.Value.{Value, plain, embedded, scoped}
 use Rattle.bson_elements.specs.Element.{maxElements, Head, head, inside, element, sizeOf, over, elementSize}
@@ -39,15 +40,15 @@ head-read at xs count h e =
     let d = passed _ _ _ _ (rule .2) in
     let value = went _ _ (d .1) in
     let v = value .0 in
-    let fits = type-fits at at (getD xs 0 0) (rule .1) .1 in
+    let fits = met (type-fits at at (getD xs 0 0)) (rule .1) .1 in
     let is : record { start = n + 2; value = v } ≡ h = ok-same (value .2) in
     rw (← is) (record {
       least = omega arith;
       fits = omega (arith, leb-false (length xs) (1 + n) (d .0));
-      value = fits (at + (n + 2)) 0 (drop (n + 2) xs) v (value .1) .1;
+      value = met (fits (at + (n + 2)) 0 (drop (n + 2) xs)) (value .1) .1;
       anywhere = λ b k l.
-          pass 21 b _ (lt-leb maxElements k l) ∙ go-on _ (type-fits at b (getD xs 0 0) (rule .1) .0) ∙ pass 18 (b + 1) _ (d .0)
-          ∙ go-on _ (fits (at + (n + 2)) (b + (n + 2)) (drop (n + 2) xs) v (value .1) .0);
+          pass 21 b _ (lt-leb maxElements k l) ∙ go-on _ (met (type-fits at b (getD xs 0 0)) (rule .1) .0) ∙ pass 18 (b + 1) _ (d .0)
+          ∙ go-on _ (met (fits (at + (n + 2)) (b + (n + 2)) (drop (n + 2) xs)) (value .1) .0);
     })
 
 -- an element takes a byte or more

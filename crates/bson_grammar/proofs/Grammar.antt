@@ -1,6 +1,6 @@
 -- The reader of `specs/Document.antt` and the grammar of `specs/Grammar.antt` agree, and what follows from that.
 -- Assumes nothing.
-use Prim.Native.Nat.{ℕ, suc, _+_, _≤_}
+use Prim.Native.Nat.{ℕ, _+_, _≤_}
 use mathlib.Core.Path.{_≡_, refl, sym, ap, _∙_}
 use mathlib.Core.List.{List, [], _∷_, _++_, List·Memᴰ·head}
 use native.Mathlib.Omega.{arith}
@@ -45,20 +45,6 @@ unambiguous {k} {m} {n} {xs} {ys} a b d e hd he same =
     let one = ok-same (sym p ∙ q) in
     let size : length xs ≡ length ys = ap (λ (r : Step ℕ). r .size) one in
     (sym (take-append-seam xs a) ∙ rw (same, size) (take-append-seam ys b), omega (arith, ap (λ (r : Step ℕ). r .state) one))
-
--- levels are an upper limit
-module _ (k : ℕ) (below : (xs : List ℕ) (n : ℕ) → Document k xs n → Document (suc k) xs n) where
-  deeper-value : {t n : ℕ} {xs : List ℕ} → Value k t xs n → Value (suc k) t xs n
-  deeper-value (Value.plain p) = Value.plain p
-  deeper-value (Value.embedded m d) = Value.embedded m (below _ _ d)
-  deeper-value (Value.scoped m s d h) = Value.scoped m s (below _ _ d) h
-
-  deeper-elements : {n : ℕ} {xs : List ℕ} → Elements k xs n → Elements (suc k) xs n
-  deeper-elements Elements.none = Elements.none
-  deeper-elements (Elements.more (Element.element name value) es) = Elements.more (Element.element name (deeper-value value)) (deeper-elements es)
-
-pub deeper : (k : ℕ) (xs : List ℕ) (n : ℕ) → Document k xs n → Document (suc k) xs n
-deeper (suc k) xs n (Document.document es h) = Document.document (deeper-elements k (deeper k) es) h
 
 -- the body of document 01's PING
 ping : Document 1 (0x0F ∷ 0 ∷ 0 ∷ 0 ∷ 0x10 ∷ 0x70 ∷ 0x69 ∷ 0x6E ∷ 0x67 ∷ 0 ∷ 1 ∷ 0 ∷ 0 ∷ 0 ∷ 0 ∷ []) 1

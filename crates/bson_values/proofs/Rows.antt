@@ -7,6 +7,7 @@ use native.Mathlib.Omega.{arith}
 use native.Mathlib.Decide.{decLt}
 use Rattle.wire.specs.Outcome.{Outcome, ok, refused}
 use Rattle.wire.specs.Bytes.{oneOf}
+use Rattle.wire.proofs.Meets.{met}
 use Rattle.bson_values.specs.Value.{Rule, table, ruleIn}
 use Rattle.bson_values.specs.Inner.{Unlisted}
 use Rattle.bson_values.proofs.Value.{type-fits}
@@ -41,7 +42,7 @@ computed = refl
 pub low-types : (at t : ℕ) → 0 < t → t ≤ 0x13 → (rule : Rule) × (ruleIn table at t ≡ ok rule)
 low-types at t low high =
     let found = has (ruleIn table 0 t) (one-of-all 0x13 t computed low high) in
-    (found .0, type-fits 0 at t (found .1) .0)
+    (found .0, met (type-fits 0 at t) (found .1) .0)
 
 -- what a test of a type tells
 pub none-has : (t : ℕ) (b : Bool) → Unlisted t b → b ≡ true → (at : ℕ) → ruleIn table at t ≡ refused 17 at

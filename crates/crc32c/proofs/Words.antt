@@ -7,7 +7,7 @@ use native.Mathlib.Nat.{add-zero, div-eq-of-lt, div-one}
 use native.Mathlib.Omega.{arith}
 use lib.Dec.{lit<, lit≤}
 use lib.ListN.{length, take, drop, getD, length-take, length-drop, take-append-drop}
-use lib.Seq.{take-all, getD-drop, drop-drop}
+use lib.Seq.{take-all, take-suc, getD-drop, drop-drop}
 use lib.Pow.{shr-shr}
 use lib.Bits.{bitXor, xor-comm, xor-zero-r, xor-shifted}
 use Rattle.crc32c_tables.specs.Steps.{shiftBits}
@@ -21,11 +21,9 @@ use Rattle.crc32c.proofs.Laws.{register-append}
 
 four-of : (s : List ℕ) → 4 ≤ length s → littleEndian (take 4 s) ≡ getD s 0 0 + getD s 1 0 * 0x100 + getD s 2 0 * 0x1_0000 + getD s 3 0 * 0x100_0000
 unfolding littleEndian
-four-of [] h = absurd (omega arith)
-four-of (a ∷ []) h = absurd (omega arith)
-four-of (a ∷ b ∷ []) h = absurd (omega arith)
-four-of (a ∷ b ∷ c ∷ []) h = absurd (omega arith)
-four-of (a ∷ b ∷ c ∷ d ∷ s) h = omega arith
+four-of s h =
+    rw (take-suc s 3 0 (omega arith), take-suc s 2 0 (omega arith), take-suc s 1 0 (omega arith), take-suc s 0 0 (omega arith))
+    (omega arith)
 
 pub four-at : (s : List ℕ) (i : ℕ) → i + 4 ≤ length s
     → littleEndian (take 4 (drop i s)) ≡ getD s i 0 + getD s (i + 1) 0 * 0x100 + getD s (i + 2) 0 * 0x1_0000 + getD s (i + 3) 0 * 0x100_0000

@@ -1,37 +1,24 @@
--- Laws of what comes next: what a reading's answer tells, and where a message lies.
+-- Laws of what comes next: where a message lies, and how few bytes are short of one.
 -- Assumes nothing.
 use Prim.Native.Nat.{ℕ, _<_}
 use mathlib.Core.Bool.{Bool, true, false, not, _&&_}
-use mathlib.Core.Path.{_≡_, refl, sym, ap, _∙_}
+use mathlib.Core.Path.{_≡_, refl, ap}
 use mathlib.Core.List.{List}
 use native.Mathlib.Omega.{arith}
 use lib.ListN.{length}
 use lib.Dec.{ltb, leb}
 use borrow.Author.Tests.{ltb-true, leb-true}
-use Rattle.wire.specs.Outcome.{Outcome, ok, refused}
+use Rattle.wire.specs.Outcome.{ok}
 use Rattle.wire.specs.Bytes.{under}
 use Rattle.opmsg.specs.Layout.{maxLength, messageLength}
 use Rattle.opmsg.specs.Read.{read}
-use Rattle.opmsg.specs.View.{answer, viewOf}
+use Rattle.opmsg.specs.View.{viewOf}
 use Rattle.opmsg.specs.declared.Edition.{Edition}
 use Rattle.opmsg.specs.declared.View.{View}
-use Rattle.opmsg.specs.declared.Reading.{Reading}
-use Rattle.opmsg.specs.declared.Verdict.the-variants.{Accepted, Refused}
 use Rattle.opmsg.proofs.Accepted.{reads}
 use Rattle.listing.specs.Next.{short, summaryOf}
 use Rattle.listing.specs.Inner.{StepWithin}
 use Rattle.listing.specs.declared.Step.the-variants.{Message}
-
--- a reading by its verdict
-pub refused-reading : (o : Outcome View) (r : Reading) (number place : ℕ) → r ≡ answer o → r .verdict ≡ Refused number place → o ≡ refused number place
-unfolding answer
-refused-reading (ok v) r number place e f = let a : Accepted ≡ Refused number place = sym (ap (λ (x : Reading). x .verdict) e) ∙ f in let z : _≡_ {A = ℕ} 0 1 = cc in absurd (omega arith)
-refused-reading (refused n p) r number place e f = let a : Refused n p ≡ Refused number place = sym (ap (λ (x : Reading). x .verdict) e) ∙ f in cc
-
-pub accepted-reading : (o : Outcome View) (r : Reading) → r ≡ answer o → r .verdict ≡ Accepted → o ≡ ok (r .view)
-unfolding answer
-accepted-reading (ok v) r e f = ap ok (sym (ap (λ (x : Reading). x .view) e))
-accepted-reading (refused n p) r e f = let a : Refused n p ≡ Accepted = sym (ap (λ (x : Reading). x .verdict) e) ∙ f in let z : _≡_ {A = ℕ} 0 1 = cc in absurd (omega arith)
 
 -- an accepted message lies within the bytes at hand
 pub within-bytes : (e : Edition) (s : List ℕ) (v : View) → read e s ≡ ok v → StepWithin (length s) (Message (summaryOf v))

@@ -9,12 +9,12 @@ use lib.Seq.{take-take, drop-append-add, drop-drop, length-take-le}
 use Rattle.wire.specs.Bytes.{word, wordAt, le32}
 use Rattle.wire.proofs.Bytes.{word-le32, wordAt-front}
 use Rattle.wire.proofs.Agree.{inner-take}
-use Rattle.opmsg.specs.Layout.{maxLength, messageLength, flagWord, sectionsEnd, sectionBytes}
+use Rattle.opmsg.specs.Layout.{maxLength, messageLength}
 use Rattle.opmsg.proofs.Accepted.{Sound}
 use Rattle.opmsg.proofs.Limits.{maxLength-small}
 use Rattle.message.specs.Message.{wholeLength}
 use Rattle.message.specs.Append.{appended}
-use Rattle.message.proofs.Message.{Headed, message-word, message-header, message-flags, message-end, message-sections, message-length, message-sound}
+use Rattle.message.proofs.Message.{Headed, Seen, message-word, message-header, message-seen}
 
 module _ (s : List ℕ) (k : Sound s) (f : ℕ) (ys : List ℕ) (small : f < 2 ^ 32) (limit : wholeLength f ys ≤ maxLength) where
   rest-length : length (take 12 (drop 4 s)) ≡ 12
@@ -44,29 +44,13 @@ module _ (s : List ℕ) (k : Sound s) (f : ℕ) (ys : List ℕ) (small : f < 2 ^
   unfolding appended
   appended-stated = message-word header f ys (form .sixteen) 0 (omega arith) ∙ form .stated
 
-  pub appended-flags : flagWord (appended s f ys) ≡ f
-  unfolding appended
-  appended-flags = message-flags header f ys form
-
-  pub appended-end : sectionsEnd (appended s f ys) ≡ 20 + length ys
-  unfolding appended
-  appended-end = message-end header f ys form
-
-  pub appended-sections : sectionBytes (appended s f ys) ≡ ys
-  unfolding appended
-  appended-sections = message-sections header f ys form
-
-  pub appended-length : length (appended s f ys) ≡ messageLength (appended s f ys)
-  unfolding appended
-  appended-length = message-length header f ys form
-
   opcode : wordAt 12 header ≡ 2013
   unfolding appended
   opcode = sym (message-word header f ys (form .sixteen) 12 (omega arith)) ∙ appended-word 8 (omega arith) ∙ k .opcode
 
-  pub appended-sound : Sound (appended s f ys)
+  pub appended-seen : Seen (appended s f ys) f ys
   unfolding appended
-  appended-sound = message-sound header f ys form limit opcode
+  appended-seen = message-seen header f ys form limit opcode
 
   pub appended-rest : take 12 (drop 4 (appended s f ys)) ≡ take 12 (drop 4 s)
   unfolding appended le32

@@ -13,7 +13,7 @@ use Rattle.wire.specs.Outcome.{ok, refuse, _>>=_}
 use Rattle.wire.specs.Bytes.{wordAt}
 use Rattle.wire.proofs.Outcome.{pass, go-on}
 use Rattle.opmsg.specs.Flags.{kept}
-use Rattle.opmsg.specs.Layout.{messageLength, flagWord, sectionsEnd, sectionBytes}
+use Rattle.opmsg.specs.Layout.{messageLength, flagWord, sectionBytes}
 use Rattle.opmsg.specs.Sections.{Parts}
 use Rattle.opmsg.specs.View.{viewOf}
 use Rattle.opmsg.specs.Read.{parts, read}
@@ -22,10 +22,10 @@ use Rattle.message.specs.Forward.{forwarded, forward}
 use Rattle.message.specs.Editions.{sectionsOf, KnowsKinds, withFlags, Room, sent}
 use Rattle.opmsg.specs.declared.Edition.{Edition}
 use Rattle.opmsg.specs.declared.View.{View}
-use Rattle.opmsg.proofs.Accepted.{Sound, Differ, reads, accepted}
+use Rattle.opmsg.proofs.Accepted.{Differ, reads, accepted}
 use Rattle.message.proofs.Answers.{kinds-known, read-answer}
 use Rattle.opmsg.proofs.Bits.{Known, known-self, allKnown-known, known-allKnown, kept-lt, kept-within, kept-known, kept-bit0}
-use Rattle.message.proofs.Message.{Headed, message-word, message-header, message-flags, message-end, message-sections, message-length, message-sound, header-word, stated-end, headed}
+use Rattle.message.proofs.Message.{Headed, Seen, message-word, message-header, message-seen, header-word, stated-end, headed}
 
 same-view : (e : Edition) (m s : List ℕ) (p : Parts) → wordAt 0 m ≡ wordAt 0 s → wordAt 4 m ≡ wordAt 4 s → wordAt 8 m ≡ wordAt 8 s
     → kept (e .bits) (flagWord m) ≡ kept (e .bits) (flagWord s) → viewOf e m p ≡ viewOf e s p
@@ -52,55 +52,42 @@ module _ (e : Edition) (s : List ℕ) (v : View) (h : read e s ≡ ok v) where
   unfolding forwarded
   forwarded-word k l = message-word (take 16 s) (v .flags) (sectionBytes s) (form .sixteen) k l ∙ header-word s (reads h .sound) k l
 
-  pub forwarded-flags : flagWord (forwarded s v) ≡ v .flags
+  forwarded-seen : Seen (forwarded s v) (v .flags) (sectionBytes s)
   unfolding forwarded
-  forwarded-flags = message-flags (take 16 s) (v .flags) (sectionBytes s) form
-
-  forwarded-bytes : sectionBytes (forwarded s v) ≡ sectionBytes s
-  unfolding forwarded
-  forwarded-bytes = message-sections (take 16 s) (v .flags) (sectionBytes s) form
-
-  forwarded-end : sectionsEnd (forwarded s v) ≡ sectionsEnd s
-  unfolding forwarded
-  forwarded-end = message-end (take 16 s) (v .flags) (sectionBytes s) form ∙ sym (stated-end s (reads h .sound))
-
-  pub forwarded-length : length (forwarded s v) ≡ messageLength s
-  unfolding forwarded
-  forwarded-length = message-length (take 16 s) (v .flags) (sectionBytes s) form ∙ forwarded-word 0 (omega arith)
-
-  forwarded-sound : Sound (forwarded s v)
-  unfolding forwarded
-  forwarded-sound =
+  forwarded-seen =
       let g = form in
       let k = reads h .sound in
-      message-sound (take 16 s) (v .flags) (sectionBytes s) g (rw (← g .stated, header-word s k 0 (omega arith)) (k .limit))
-      (header-word s k 12 (omega arith) ∙ k .opcode)
+      message-seen (take 16 s) (v .flags) (sectionBytes s) g
+      (rw (← g .stated, header-word s k 0 (omega arith)) (k .limit)) (header-word s k 12 (omega arith) ∙ k .opcode)
+
+  pub forwarded-length : length (forwarded s v) ≡ messageLength s
+  forwarded-length = forwarded-seen .whole ∙ forwarded-word 0 (omega arith)
 
   forwarded-parts : (r : Edition) → parts r (forwarded s v) ≡ parts r s
   unfolding parts
-  forwarded-parts r = rw (forwarded-end, forwarded-bytes)
+  forwarded-parts r = rw (forwarded-seen .end, stated-end s (reads h .sound), forwarded-seen .sections)
 
   -- forwarding again sets the flag word alone
   pub forwarded-again : (w : View) → forwarded (forwarded s v) w ≡ forwarded s w
   unfolding forwarded
-  forwarded-again w = rw (forwarded-bytes, message-header (take 16 s) (v .flags) (sectionBytes s) form)
+  forwarded-again w = rw (forwarded-seen .sections, message-header (take 16 s) (v .flags) (sectionBytes s) form)
 
   -- the edition accepts what it forwards, and shows the same
   pub own-forward : read e (forwarded s v) ≡ ok v
   own-forward =
       let r = reads h in
-      let b = known-allKnown 16 (e .bits) (flagWord (forwarded s v)) (rw (forwarded-flags, view-flags) (kept-known 16 (e .bits) (e .bits) (flagWord s) required)) in
-      let d : Differ (sectionBytes (forwarded s v)) (r .sections .sections) = rw forwarded-bytes (r .differ) in
-      accepted e (forwarded s v) forwarded-sound b (r .sections) (forwarded-parts e ∙ r .listed) (r .body) d
+      let b = known-allKnown 16 (e .bits) (flagWord (forwarded s v)) (rw (forwarded-seen .flags, view-flags) (kept-known 16 (e .bits) (e .bits) (flagWord s) required)) in
+      let d : Differ (sectionBytes (forwarded s v)) (r .sections .sections) = rw (forwarded-seen .sections) (r .differ) in
+      accepted e (forwarded s v) (forwarded-seen .sound) b (r .sections) (forwarded-parts e ∙ r .listed) (r .body) d
       ∙ ap ok (same-view e (forwarded s v) s (r .sections) (forwarded-word 0 (omega arith)) (forwarded-word 4 (omega arith)) (forwarded-word 8 (omega arith))
-      (ap (kept (e .bits)) (forwarded-flags ∙ view-flags) ∙ kept-within (e .bits) (e .bits) (flagWord s) (known-self 32 (e .bits))) ∙ r .view)
+      (ap (kept (e .bits)) (forwarded-seen .flags ∙ view-flags) ∙ kept-within (e .bits) (e .bits) (flagWord s) (known-self 32 (e .bits))) ∙ r .view)
 
   -- so does a relay with the required bits and the kinds of what e forwards
   pub forwarded-answer : (r : Edition) → Known 16 (v .flags) (r .bits) → KnowsKinds r (sectionsOf e s) → read r (forwarded s v) ≡ ok (withFlags v (kept (r .bits) (v .flags)))
   forwarded-answer r k u =
-      let b = known-allKnown 16 (r .bits) (flagWord (forwarded s v)) (rw forwarded-flags k) in
+      let b = known-allKnown 16 (r .bits) (flagWord (forwarded s v)) (rw (forwarded-seen .flags) k) in
       read-answer e r (forwarded s v) v own-forward ∙ pass 8 16 _ b
-      ∙ go-on _ (rw (forwarded-parts e) (kinds-known r (sectionsOf e s) u)) ∙ rw forwarded-flags
+      ∙ go-on _ (rw (forwarded-parts e) (kinds-known r (sectionsOf e s) u)) ∙ rw (forwarded-seen .flags)
 
   -- given room, that is what the relay forwards
   pub sent-forwarded : (out : List ℕ) → Room s out → sent e s out ≡ forwarded s v

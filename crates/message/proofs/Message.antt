@@ -84,6 +84,14 @@ pub record Headed (h : List ℕ) (f : ℕ) (xs : List ℕ) : Type 0 where
   pub stated : wordAt 0 h ≡ wholeLength f xs
   pub small : f < 2 ^ 32
 
+-- what reading sees of a message with a flag word and sections
+pub record Seen (m : List ℕ) (f : ℕ) (xs : List ℕ) : Type 0 where
+  pub sound : Sound m
+  pub flags : flagWord m ≡ f
+  pub end : sectionsEnd m ≡ 20 + length xs
+  pub sections : sectionBytes m ≡ xs
+  pub whole : length m ≡ messageLength m
+
 module _ (h : List ℕ) (f : ℕ) (xs : List ℕ) (g : Headed h f xs) where
   abbrev before : List ℕ
   before = bare h f xs
@@ -94,7 +102,7 @@ module _ (h : List ℕ) (f : ℕ) (xs : List ℕ) (g : Headed h f xs) where
   behind : drop 16 (message h f xs) ≡ le32 f ++ (xs ++ checksum f before)
   behind = rw (shape h f xs) (drop-at h _ 16 (g .sixteen))
 
-  pub message-flags : flagWord (message h f xs) ≡ f
+  message-flags : flagWord (message h f xs) ≡ f
   unfolding wordAt
   message-flags = rw behind (word-le32 f _ (g .small))
 
@@ -106,15 +114,15 @@ module _ (h : List ℕ) (f : ℕ) (xs : List ℕ) (g : Headed h f xs) where
   unfolding wholeLength
   stated-whole = message-word h f xs (g .sixteen) 0 (omega arith) ∙ g .stated
 
-  pub message-end : sectionsEnd (message h f xs) ≡ 20 + length xs
+  message-end : sectionsEnd (message h f xs) ≡ 20 + length xs
   unfolding sectionsEnd
   message-end = rw (message-flags, stated-whole) (omega arith)
 
-  pub message-sections : sectionBytes (message h f xs) ≡ xs
+  message-sections : sectionBytes (message h f xs) ≡ xs
   unfolding sectionBytes
   message-sections = rw (message-end, rest) (take-at xs _ (20 + length xs - 20) (omega arith))
 
-  pub message-length : length (message h f xs) ≡ messageLength (message h f xs)
+  message-length : length (message h f xs) ≡ messageLength (message h f xs)
   unfolding wholeLength
   message-length = message-whole h f xs (g .sixteen) ∙ sym stated-whole
 
@@ -133,7 +141,7 @@ module _ (h : List ℕ) (f : ℕ) (xs : List ℕ) (g : Headed h f xs) where
       rw (k, before-sum) (sum-there d)
 
   -- with the limit kept and the opcode of OP_MSG, its header is sound
-  pub message-sound : wholeLength f xs ≤ maxLength → wordAt 12 h ≡ 2013 → Sound (message h f xs)
+  message-sound : wholeLength f xs ≤ maxLength → wordAt 12 h ≡ 2013 → Sound (message h f xs)
   unfolding wholeLength
   message-sound l c =
       let n = stated-whole in
@@ -145,6 +153,15 @@ module _ (h : List ℕ) (f : ℕ) (xs : List ℕ) (g : Headed h f xs) where
         ended = rw message-flags (omega arith);
         checksum = message-checksum;
       }
+
+  pub message-seen : wholeLength f xs ≤ maxLength → wordAt 12 h ≡ 2013 → Seen (message h f xs) f xs
+  message-seen l c = record {
+    sound = message-sound l c;
+    flags = message-flags;
+    end = message-end;
+    sections = message-sections;
+    whole = message-length;
+  }
 
 -- a message with a sound header
 module _ (s : List ℕ) (k : Sound s) where

@@ -25,12 +25,12 @@ use Rattle.message.specs.Editions.{Room}
 use Rattle.message.specs.RoundTrip.{firstMessage}
 use Rattle.opmsg.specs.declared.Edition.{Edition}
 use Rattle.opmsg.specs.declared.View.{View}
-use Rattle.opmsg.proofs.Accepted.{Sound, Differ, reads, accepted}
+use Rattle.opmsg.proofs.Accepted.{Differ, reads, accepted}
 use Rattle.opmsg.proofs.Section.{section-steady}
 use Rattle.opmsg.proofs.Bits.{Known, known-allKnown, kept-all}
-use Rattle.message.proofs.Message.{stated-length}
+use Rattle.message.proofs.Message.{Seen, stated-length}
 use Rattle.message.proofs.Whole.{word-bytes-at, whole}
-use Rattle.message.proofs.Appended.{appended-flags, appended-end, appended-sections, appended-length, appended-sound, appended-rest}
+use Rattle.message.proofs.Appended.{appended-seen, appended-rest}
 
 -- the message s with sections ys
 abbrev pub made : List ℕ → List ℕ → List ℕ
@@ -53,14 +53,8 @@ module _ (e : Edition) (s : List ℕ) (v : View) (h : read e s ≡ ok v) (b : By
     made-limit : wholeLength (flagWord s) ys ≤ maxLength
     made-limit = omega (arith, made-fits, reads h .sound .limit)
 
-    pub made-flags : flagWord (made s ys) ≡ flagWord s
-    made-flags = appended-flags s (reads h .sound) (flagWord s) ys flags-lt made-limit
-
-    pub made-sections : sectionBytes (made s ys) ≡ ys
-    made-sections = appended-sections s (reads h .sound) (flagWord s) ys flags-lt made-limit
-
-    made-sound : Sound (made s ys)
-    made-sound = appended-sound s (reads h .sound) (flagWord s) ys flags-lt made-limit
+    made-seen : Seen (made s ys) (flagWord s) ys
+    made-seen = appended-seen s (reads h .sound) (flagWord s) ys flags-lt made-limit
 
     -- appending to it gives it with other sections
     pub appended-made : (zs : List ℕ) → appended (made s ys) (flagWord s) zs ≡ made s zs
@@ -72,17 +66,17 @@ module _ (e : Edition) (s : List ℕ) (v : View) (h : read e s ≡ ok v) (b : By
     unfolding parts
     made-read p w i d =
         let a : parts e (made s ys) ≡ ok p =
-        rw (appended-end s (reads h .sound) (flagWord s) ys flags-lt made-limit, made-sections)
+        rw (made-seen .end, made-seen .sections)
         (walk-turns (sectionAt e) (section-steady e .advances) (20 + length ys) (length ys) 20 ys nothing (omega arith) (omega arith) ∙ w) in
-        accepted e (made s ys) made-sound (rw made-flags (reads h .bits)) p a
-        (ne-eqb (bodyStart (p .sections)) 0 (λ z. omega arith)) (rw made-sections d)
+        accepted e (made s ys) (made-seen .sound) (rw (made-seen .flags) (reads h .bits)) p a
+        (ne-eqb (bodyStart (p .sections)) 0 (λ z. omega arith)) (rw (made-seen .sections) d)
 
     -- it is the first message of an output that begins with it
     pub first-made : (r : List ℕ) → firstMessage (made s ys ++ r) ≡ made s ys
     unfolding firstMessage
     first-made r =
-        let a : length (made s ys) ≡ messageLength (made s ys) = appended-length s (reads h .sound) (flagWord s) ys flags-lt made-limit in
-        let c : 4 ≤ length (made s ys) = omega (arith, made-sound .least) in
+        let a = made-seen .whole in
+        let c : 4 ≤ length (made s ys) = omega (arith, made-seen .sound .least) in
         rw (wordAt-front 0 (made s ys) r c) (take-at (made s ys) r (messageLength (made s ys)) a)
 
   -- one sequence is appended
@@ -101,9 +95,9 @@ module _ (e : Edition) (s : List ℕ) (v : View) (h : read e s ≡ ok v) (b : By
           ne-eqb (length name) 0 (λ i. omega arith),
           z,
           le-ltb (length name) (length name) (omega arith),
-          made-flags ys i,
+          made-seen ys i .flags,
           flags-kept,
-          made-sections ys i,
+          made-seen ys i .sections,
           le-ltb maxLength (wholeLength (flagWord s) zs) (omega (arith, made-fits zs l, reads h .sound .limit)),
           le-ltb (length out) (wholeLength (flagWord s) zs) (omega (arith, made-fits zs l)),
           appended-made ys i zs,

@@ -23,7 +23,7 @@ use Rattle.message.specs.Append.{append}
 use Rattle.message.specs.WrittenMessages.{WritesMessage, WritesMessages}
 use Rattle.message.proofs.Message.{message-word, message-whole}
 use Rattle.message.proofs.Forwarded.{view-flags, view-length, forwarded-length, own-forward}
-use Rattle.message.proofs.Appended.{appended-length}
+use Rattle.message.proofs.Appended.{appended-seen}
 
 forwards : (e : Edition) (s : List ℕ) (room : ℕ) → WritesMessage e (forward e s room)
 unfolding forward
@@ -63,7 +63,7 @@ appends e s identifier documents room w h =
     let small : v .flags < 2 ^ 32 = rw (view-flags e s v k) (kept-lt (e .bits) (flagWord s)) in
     let limit = ltb-false maxLength _ (c5 .0) in
     bound (read e _) _ (c6 .1) λ u r same.
-    rw (← ok-same same) (r, appended-length s (reads k .sound) (v .flags) _ small limit ∙ sym (view-length e _ u r))
+    rw (← ok-same same) (r, appended-seen s (reads k .sound) (v .flags) _ small limit .whole ∙ sym (view-length e _ u r))
 
 pub writes-messages : WritesMessages
 writes-messages = record { forwards = forwards; writes = writes; appends = appends }

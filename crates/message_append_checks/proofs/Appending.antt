@@ -28,9 +28,9 @@ use Rattle.opmsg.proofs.Section.{section-steady}
 use Rattle.opmsg.proofs.Shown.{padded-set}
 use Rattle.message.specs.Message.{wholeLength}
 use Rattle.message.specs.Append.{sequenceBytes, appended, append}
-use Rattle.message.proofs.Message.{same-size, stated-length, stated-end}
+use Rattle.message.proofs.Message.{Seen, same-size, stated-length, stated-end}
 use Rattle.message.proofs.Forwarded.{required, view-flags, view-length}
-use Rattle.message.proofs.Appended.{appended-word, appended-stated, appended-flags, appended-end, appended-sections, appended-sound}
+use Rattle.message.proofs.Appended.{appended-word, appended-stated, appended-seen}
 use Rattle.opmsg_sections.proofs.Gather.{body-stays, sequences-more}
 use Rattle.message_append_store.proofs.Size.{sizeOf, bytes-length}
 use Rattle.message_append_checks.specs.Inner.{allowed, entry, grown}
@@ -141,6 +141,9 @@ module _ (e : Edition) (s : List ℕ) (v : View) (h : read e s ≡ ok v) where
       unfolding wholeLength
       size-small = omega (arith, a .limit, length-append (sectionBytes s) (sequenceBytes name documents), bytes-length name documents)
 
+      seen : Seen new (v .flags) more
+      seen = appended-seen s (r .sound) (v .flags) more flags-small (a .limit)
+
       -- it is read as the documents are, behind the sections that were there
       abbrev at : ℕ
       at = 20 + length (sectionBytes s)
@@ -152,7 +155,7 @@ module _ (e : Edition) (s : List ℕ) (v : View) (h : read e s ≡ ok v) where
           let ys = sequenceBytes name documents in
           let l = bytes-length name documents in
           let k = length-append xs ys in
-          rw (appended-end s (r .sound) (v .flags) more flags-small (a .limit), appended-sections s (r .sound) (v .flags) more flags-small (a .limit))
+          rw (seen .end, seen .sections)
           (walk-append (sectionAt e) (section-steady e) (sectionsEnd s) (1 + sizeOf name documents) (20 + length more) 20 xs ys nothing (omega (arith, stated-end s (r .sound))) (omega arith) (omega arith) (r .listed)
           ∙ section-walked name documents e at (r .sections) (a .known) (omega (arith, a .few, shows .number-is)) (a .some) (a .ended) (omega (arith, size-small, maxLength-small)))
 
@@ -168,7 +171,7 @@ module _ (e : Edition) (s : List ℕ) (v : View) (h : read e s ≡ ok v) where
             ← whole-is,
             appended-word s (r .sound) (v .flags) more flags-small (a .limit) 0 (omega arith),
             appended-word s (r .sound) (v .flags) more flags-small (a .limit) 4 (omega arith),
-            appended-flags s (r .sound) (v .flags) more flags-small (a .limit),
+            seen .flags,
             flags-again,
             ids .0,
             ids .1,
@@ -188,9 +191,9 @@ module _ (e : Edition) (s : List ℕ) (v : View) (h : read e s ≡ ok v) where
           >>= λ _. ok (grown v at (length name) (length documents) (run .documents) (run .elements)))
       unfolding content
       read-new =
-          let known = known-allKnown 16 (e .bits) (flagWord new) (rw (appended-flags s (r .sound) (v .flags) more flags-small (a .limit), view-flags e s v h) (kept-known 16 (e .bits) (e .bits) (flagWord s) (required e s v h))) in
-          read-content e new (appended-sound s (r .sound) (v .flags) more flags-small (a .limit)) known
-          ∙ rw (content, new-parts, appended-sections s (r .sound) (v .flags) more flags-small (a .limit)) (assoc _ _ _
+          let known = known-allKnown 16 (e .bits) (flagWord new) (rw (seen .flags, view-flags e s v h) (kept-known 16 (e .bits) (e .bits) (flagWord s) (required e s v h))) in
+          read-content e new (seen .sound) known
+          ∙ rw (content, new-parts, seen .sections) (assoc _ _ _
           ∙ same-after _ _ _ (λ run g. go-on _ refl
           ∙ rw (names-checked (sectionBytes s) (r .sections .sections) (accepted-held e s v h) (r .differ) (r .body) name documents (run .documents) (sectionsEnd new), new-view run)))
 

@@ -27,11 +27,11 @@ use Rattle.opmsg.specs.Read.{parts, distinctNames, content, read}
 use Rattle.opmsg.specs.declared.Edition.{Edition}
 use Rattle.opmsg.proofs.Limits.{maxLength-small}
 use Rattle.opmsg.proofs.Bits.{Known, allKnown-known, known-allKnown, bits-known, known-bits, kept-all}
-use Rattle.opmsg.proofs.Accepted.{Sound, read-content}
+use Rattle.opmsg.proofs.Accepted.{read-content}
 use Rattle.message.specs.Message.{wholeLength}
 use Rattle.message.specs.Write.{written, write}
 use Rattle.message.specs.Inner.{decided}
-use Rattle.message.proofs.Message.{Headed, message-word, message-flags, message-end, message-sections, message-sound}
+use Rattle.message.proofs.Message.{Headed, Seen, message-word, message-seen}
 use Rattle.message_write_checks.specs.Inner.{Fit, bodyExamined}
 use Rattle.message_write.specs.Inner.{shown}
 
@@ -84,32 +84,28 @@ module _ (e : Edition) (i j : ℤ) (flags : ℕ) (s : List ℕ) (room : ℕ) (fi
     small = small;
   }
 
-  front-sound : Sound (written i j flags s)
+  written-seen : Seen (written i j flags s) flags (0 ∷ s)
   unfolding written wordAt le32 word
-  front-sound = message-sound front flags (0 ∷ s) front-headed (fit .limit) refl
-
-  written-flags : flagWord (written i j flags s) ≡ flags
-  unfolding written
-  written-flags = message-flags front flags (0 ∷ s) front-headed
+  written-seen = message-seen front flags (0 ∷ s) front-headed (fit .limit) refl
 
   all-known : Known 32 flags (e .bits)
   all-known = allKnown-known 32 (e .bits) flags (fit .known)
 
   required-known : not (allKnown 16 (e .bits) (flagWord (written i j flags s))) ≡ false
-  required-known = rw written-flags (known-allKnown 16 (e .bits) flags (bits-known 16 flags (e .bits) (λ n l. known-bits 32 flags (e .bits) all-known n (omega arith))))
+  required-known = rw (written-seen .flags) (known-allKnown 16 (e .bits) flags (bits-known 16 flags (e .bits) (λ n l. known-bits 32 flags (e .bits) all-known n (omega arith))))
 
   written-parts : parts e (written i j flags s) ≡ (documentAt maxLevels 21 s 0 >>= λ d. ok (alone d))
   unfolding parts written
   written-parts =
       let n : 20 + length (0 ∷ s) ≡ suc (20 + length s) = omega arith in
-      rw (message-end front flags (0 ∷ s) front-headed, message-sections front flags (0 ∷ s) front-headed, n) (body-walked e s (20 + length s) (fit .stated))
+      rw (written-seen .end, written-seen .sections, n) (body-walked e s (20 + length s) (fit .stated))
 
   -- reading the message is reading the body
   written-read : read e (written i j flags s) ≡ (bodyExamined s >>= λ d. ok (viewOf e (written i j flags s) (alone d)))
   unfolding content bodyExamined written
   written-read =
-      read-content e (written i j flags s) front-sound required-known
-      ∙ rw (written-parts, message-end front flags (0 ∷ s) front-headed, message-sections front flags (0 ∷ s) front-headed)
+      read-content e (written i j flags s) (written-seen .sound) required-known
+      ∙ rw (written-parts, written-seen .end, written-seen .sections)
       (assoc (documentAt maxLevels 21 s 0) _ _
       ∙ same-after (documentAt maxLevels 21 s 0) _ _ (λ d h. go-on _ refl ∙ rw names-alone (content-alone _ d (λ (a : Step ℕ). viewOf e (written i j flags s) (alone a))))
       ∙ sym (assoc (documentAt maxLevels 21 s 0) _ _))
@@ -147,7 +143,7 @@ module _ (e : Edition) (i j : ℤ) (flags : ℕ) (s : List ℕ) (room : ℕ) (fi
           words 8 (omega arith) ∙ second,
           signed-bits32 i fits-i,
           signed-bits32 j fits-j,
-          written-flags,
+          written-seen .flags,
           kept-all (e .bits) flags all-known small,
         )
 

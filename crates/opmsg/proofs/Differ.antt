@@ -1,20 +1,16 @@
--- Names that differ in a message differ in a front of its sections. The names of elements that were read, one by one.
+-- Names that differ in a message differ in a front of its sections. The names of elements, one by one.
 -- Assumes nothing.
 use Prim.Native.Nat.{ℕ, zero, suc, _+_, _-_, _<_, _≤_}
 use mathlib.Core.Path.{_≡_, refl, sym, ap, _∙_}
-use mathlib.Core.List.{List, [], _∷_, _++_, map}
+use mathlib.Core.List.{List, [], _∷_, _++_, map, map-append}
 use native.Mathlib.Omega.{arith}
 use lib.ListN.{length, take, drop, length-drop}
 use lib.Seq.{take-append-le, drop-append-le}
 use borrow.Author.Tests.{ne-eqb}
 use Rattle.wire.specs.Bytes.{untilZero}
 use Rattle.wire.specs.Outcome.{ok}
-use Rattle.wire.specs.Walk.{Reader, walk}
-use Rattle.wire.proofs.Outcome.{passed, pass, bound}
-use Rattle.wire.proofs.Walk.{walk-step}
-use Rattle.bson_elements.specs.Element.{element, elementSize}
-use Rattle.bson.proofs.Steady.{Frames}
-use Rattle.bson.proofs.Element.{element-advances, element-over}
+use Rattle.wire.proofs.Outcome.{passed, pass}
+use Rattle.bson_elements.specs.Element.{elementSize}
 use Rattle.opmsg.specs.Sections.{Section, bodyStart, bodySize, sequencesOf}
 use Rattle.opmsg.specs.Names.{Name, distinct, elementNames, part, identifier, bodyNames, identifiers}
 use Rattle.opmsg.specs.declared.Sequence.{Sequence}
@@ -45,10 +41,6 @@ pub front-identifiers : (ys zs : List ℕ) (qs : List Sequence) → NamesWithin 
 unfolding identifier
 front-identifiers ys zs [] h = refl
 front-identifiers ys zs (q ∷ qs) h = rw (front-part ys zs (q .name) (q .«name_length») (h .0), front-identifiers ys zs qs (h .1))
-
-map-append : (f : Sequence → Name) (qs rs : List Sequence) → map f (qs ++ rs) ≡ map f qs ++ map f rs
-map-append f [] rs = refl
-map-append f (q ∷ qs) rs = ap (λ (l : List Name). f q ∷ l) (map-append f qs rs)
 
 front-distinct : (number : ℕ) (earlier : List (List ℕ)) (ns ms : List Name) → distinct number earlier (ns ++ ms) ≡ ok tt → distinct number earlier ns ≡ ok tt
 unfolding distinct
@@ -81,18 +73,3 @@ pub names-done : (turns at : ℕ) → elementNames turns at [] ≡ []
 unfolding elementNames
 names-done zero at = refl
 names-done (suc turns) at = refl
-
--- of elements that were read: turns past the bytes change nothing
-pub names-turns : (document : Reader ℕ) → Frames document → (m n at : ℕ) (xs : List ℕ) (count : ℕ) {total : ℕ} → length xs ≤ m → length xs ≤ n → walk (element document) m at xs count ≡ ok total
-    → elementNames m at xs ≡ elementNames n at xs
-names-turns document f zero n at [] count k l h = names-done zero at ∙ sym (names-done n at)
-names-turns document f zero n at (x ∷ xs) count k l h = absurd (omega arith)
-names-turns document f (suc m) n at [] count k l h = names-done (suc m) at ∙ sym (names-done n at)
-names-turns document f (suc m) zero at (x ∷ xs) count k l h = absurd (omega arith)
-names-turns document f (suc m) (suc n) at (x ∷ xs) count k l h =
-    bound (element document at (x ∷ xs) count) _ (sym (walk-step (element document) m at (x ∷ xs) count (omega arith)) ∙ h) λ one e rest.
-    let some = element-advances document at (x ∷ xs) count one e in
-    let size = element-over document f at (x ∷ xs) count one e in
-    let left = length-drop (one .size) (x ∷ xs) in
-    let i = names-turns document f m n (at + one .size) (drop (one .size) (x ∷ xs)) (one .state) (omega arith) (omega arith) rest in
-    rw (names-step m at (x ∷ xs) (omega arith), names-step n at (x ∷ xs) (omega arith), size, i)

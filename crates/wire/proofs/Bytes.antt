@@ -8,12 +8,13 @@ use native.Mathlib.Omega.{arith}
 use native.Mathlib.Numerals.{add-one}
 use native.Mathlib.Nat.{div-div-eq-div-mul, div-lt-iff-lt-mul, mod-eq-of-lt, mod-add-div}
 use lib.ListN.{length, getD, take, drop, length-drop, drop-of-length-le}
-use lib.Seq.{drop-append-le, drop-cons, getD-drop}
+use lib.Seq.{take-suc, drop-append-le, drop-cons, getD-drop}
 use lib.Dec.{ltb, leb, eqb}
 use lib.IntN.{ℤ, pos, negsuc}
 use mir.Syntax.{w32}
 use mir.Val.{SFits}
 use borrow.Author.Tests.{ltb-false, leb-false, lt-ltb, le-ltb, lt-leb, eqb-true, eq-eqb, ne-eqb}
+use Rattle.wire.proofs.Agree.{agree-word, agree-append}
 use Rattle.wire.specs.Bytes.{Bytes, word, wordAt, under, signed, bits32, le32, untilZero}
 
 -- a number that is not under n, as a signed one
@@ -74,11 +75,9 @@ digits a b c d p q r t =
 
 pub le32-word : (s : List ℕ) → Bytes s → 4 ≤ length s → le32 (word s) ≡ take 4 s
 unfolding word
-le32-word [] b l = absurd (omega arith)
-le32-word (x ∷ []) b l = absurd (omega arith)
-le32-word (x ∷ y ∷ []) b l = absurd (omega arith)
-le32-word (x ∷ y ∷ z ∷ []) b l = absurd (omega arith)
-le32-word (x ∷ y ∷ z ∷ t ∷ s) b l = digits x y z t (b 0) (b 1) (b 2) (b 3)
+le32-word s b l =
+    rw (take-suc s 3 0 (omega arith), take-suc s 2 0 (omega arith), take-suc s 1 0 (omega arith), take-suc s 0 0 (omega arith))
+    (digits _ _ _ _ (b 0) (b 1) (b 2) (b 3))
 
 pub bits32-signed : (n : ℕ) → n < 2 ^ 32 → bits32 (signed n) ≡ n
 unfolding signed bits32
@@ -97,18 +96,12 @@ pub signed-bits32 : (x : ℤ) → SFits w32 x → signed (bits32 x) ≡ x
 unfolding signed bits32
 signed-bits32 (pos n) f = rw (signed, lt-ltb n (2 ^ 31) (f .sfits))
 signed-bits32 (negsuc n) f =
-    let k : n < 2 ^ 31 = f .sfits in
     let e : 2 ^ 32 - 1 - (2 ^ 32 - 1 - n) ≡ n = omega arith in
     rw (signed, le-ltb (2 ^ 32 - 1 - n) (2 ^ 31) (omega arith), e)
 
 -- a front of the bytes shows the numbers in it
 pub word-front : (xs r : List ℕ) → 4 ≤ length xs → word (xs ++ r) ≡ word xs
-unfolding word
-word-front [] r h = absurd (omega arith)
-word-front (a ∷ []) r h = absurd (omega arith)
-word-front (a ∷ b ∷ []) r h = absurd (omega arith)
-word-front (a ∷ b ∷ c ∷ []) r h = absurd (omega arith)
-word-front (a ∷ b ∷ c ∷ d ∷ xs) r h = refl
+word-front xs r h = agree-word (agree-append r h) (omega arith)
 
 pub wordAt-front : (k : ℕ) (h r : List ℕ) → k + 4 ≤ length h → wordAt k (h ++ r) ≡ wordAt k h
 unfolding wordAt

@@ -2,17 +2,23 @@
 -- Assumes nothing.
 use Prim.Native.Nat.{ℕ, zero, suc, _+_, _<_}
 use mathlib.Core.Bool.{Bool, true, false}
-use mathlib.Core.Path.{_≡_, refl}
+use mathlib.Core.Path.{_≡_, refl, subst}
 use mathlib.Core.List.{List, [], _∷_}
 use native.Mathlib.Omega.{arith}
 use lib.ListN.{length, drop, length-drop}
 use Rattle.wire.specs.Outcome.{Outcome, ok, refused, refuse, _>>=_}
 use Rattle.wire.specs.Walk.{Step, Reader, walk}
+use Rattle.wire.proofs.Outcome.{not-ok, ok-same}
 use Rattle.wire.proofs.Walk.{walk-done, walk-step}
 
 pub data Meets {A : Type 0} (P : A → Type 0) (Q : ℕ → ℕ → Type 0) : Outcome A → Type 0 where
   good : {a : A} → P a → Meets P Q (ok a)
   fault : {number place : ℕ} → Q number place → Meets P Q (refused number place)
+
+-- what is known of a value
+pub met : {A : Type 0} {P : A → Type 0} {Q : ℕ → ℕ → Type 0} {o : Outcome A} {a : A} → Meets P Q o → o ≡ ok a → P a
+met {P = P} (good h) e = subst P (ok-same e) h
+met (fault q) e = not-ok e
 
 -- what is known of a refusal
 pub missed : {A : Type 0} {P : A → Type 0} {Q : ℕ → ℕ → Type 0} {o : Outcome A} {number place : ℕ} → Meets P Q o → o ≡ refused number place → Q number place

@@ -14,10 +14,6 @@ use Rattle.bson_values.proofs.Rows.{none-has, one-has}
 use Rattle.bson_elements.proofs.head.Statement.{statement}
 use Rattle.bson_elements.proofs.head.Tie as tie
 
-returns : tie.Need-returns
-unfolding head maxElements _>>=_ refuse
-returns c = (rw (head, le-leb _ _ (c .if1 .taken)), tt)
-
 returns-2 : tie.Need-returns-2
 unfolding head maxElements _>>=_ refuse
 returns-2 c =
@@ -63,10 +59,11 @@ returns-5 c =
     )
 
 pub head-spec : {M : Type 1} → statement M
+unfolding head maxElements _>>=_ refuse
 head-spec =
     tie.close
     (tie.spec
-    returns
+    (λ c. (rw (head, le-leb _ _ (c .if1 .taken)), tt))
     (λ c. search needs)
     (λ c κs. search needs)
     returns-2

@@ -7,10 +7,6 @@ use Rattle.bson_values.specs.Value.{binary}
 use Rattle.bson_values.proofs.binary.Statement.{statement}
 use Rattle.bson_values.proofs.binary.Tie as tie
 
-returns : tie.Need-returns
-unfolding binary _>>=_ refuse
-returns c = (λ v. rw (binary, lt-ltb _ _ (c .if1 .taken)), tt)
-
 returns-2 : tie.Need-returns-2
 unfolding binary _>>=_ refuse
 returns-2 c = (λ v. rw (binary, le-ltb _ _ (c .before .before .before .if1 .left), ← c .before .before .word .ensures, ← c .before .under .ensures, c .if2 .taken), tt)
@@ -24,10 +20,11 @@ unfolding binary _>>=_ refuse
 returns-4 c = (λ v. rw (binary, le-ltb _ _ (c .before .before .before .before .if1 .left), ← c .before .before .before .word .ensures, ← c .before .before .under .ensures, c .before .if2 .left, le-ltb _ _ (c .if3 .left)), c .if3 .left)
 
 pub binary-spec : {M : Type 1} → statement M
+unfolding binary _>>=_ refuse
 binary-spec =
     tie.close
     (tie.spec
-    returns
+    (λ c. (λ v. rw (binary, lt-ltb _ _ (c .if1 .taken)), tt))
     (λ c κs. search needs)
     (λ c κs. search needs)
     returns-2

@@ -6,13 +6,10 @@ use Rattle.bson_values.specs.Value.{sized}
 use Rattle.bson_values.proofs.sized.Statement.{statement}
 use Rattle.bson_values.proofs.sized.Tie as tie
 
-returns : tie.Need-returns
-unfolding sized _>>=_ refuse
-returns c = (λ v. rw (sized, lt-ltb _ _ (c .if1 .taken)), tt)
-
-returns-2 : tie.Need-returns-2
-unfolding sized _>>=_ refuse
-returns-2 c = (λ v. rw (sized, le-ltb _ _ (c .if1 .left)), c .if1 .left)
-
 pub sized-spec : {M : Type 1} → statement M
-sized-spec = tie.close (tie.spec returns returns-2)
+unfolding sized _>>=_ refuse
+sized-spec =
+    tie.close
+    (tie.spec
+    (λ c. (λ v. rw (sized, lt-ltb _ _ (c .if1 .taken)), tt))
+    (λ c. (λ v. rw (sized, le-ltb _ _ (c .if1 .left)), c .if1 .left)))

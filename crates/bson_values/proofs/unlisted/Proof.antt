@@ -9,23 +9,16 @@ use Rattle.bson_values.proofs.Rows.{low-types}
 use Rattle.bson_values.proofs.unlisted.Statement.{statement}
 use Rattle.bson_values.proofs.unlisted.Tie as tie
 
-returns : tie.Need-returns
-unfolding table ruleIn oneOf
-returns c = λ at. ap (ruleIn table at) (c .if1 .taken)
-
-returns-2 : tie.Need-returns-2
-returns-2 c = λ at. low-types at (c .before .before .args .t) (omega arith) (omega arith)
-
-returns-3 : tie.Need-returns-3
-unfolding table ruleIn oneOf
-returns-3 c = λ at. (_, ap (ruleIn table at) (c .if3 .taken))
-
-returns-4 : tie.Need-returns-4
-unfolding table ruleIn oneOf
-returns-4 c = λ at. (_, ap (ruleIn table at) (c .if4 .taken))
-
 returns-5 : tie.Need-returns-5
 returns-5 c = λ at. above-table at (c .before .before .before .before .args .t) (omega arith) (c .before .if3 .left) (c .if4 .left)
 
 pub unlisted-spec : {M : Type 1} → statement M
-unlisted-spec = tie.close (tie.spec returns returns-2 returns-3 returns-4 returns-5)
+unfolding table ruleIn oneOf
+unlisted-spec =
+    tie.close
+    (tie.spec
+    (λ c. λ at. ap (ruleIn table at) (c .if1 .taken))
+    (λ c. λ at. low-types at (c .before .before .args .t) (omega arith) (omega arith))
+    (λ c. λ at. (_, ap (ruleIn table at) (c .if3 .taken)))
+    (λ c. λ at. (_, ap (ruleIn table at) (c .if4 .taken)))
+    returns-5)

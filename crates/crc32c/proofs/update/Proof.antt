@@ -16,12 +16,6 @@ Inv-loop register s r₀ i₀ r i = (i ≤ length s) × (registerAfter r (drop i
 abbrev μ-loop : tie.MeasureT-loop
 μ-loop register s r₀ i₀ r i = length s - i
 
-loop-holds : tie.Need-loop-holds Inv-loop μ-loop
-loop-holds c = (omega arith, refl)
-
-sixteen-requires : tie.Need-sixteen-requires Inv-loop μ-loop
-sixteen-requires c κs = simp (length-take, length-drop) (omega arith)
-
 loop-again : tie.Need-loop-again Inv-loop μ-loop
 loop-again c =
     let l = c .before .before .before .loop in
@@ -35,16 +29,14 @@ returns c =
 pub update-spec : {M : Type 1} → statement M
 update-spec =
     tie.close
-    (tie.spec
-    Inv-loop
-    μ-loop
-    loop-holds
+    (tie.spec Inv-loop μ-loop
+    (λ c. (omega arith, refl))
     (λ c. omega arith)
     (λ c. omega arith)
     (λ c. omega arith)
     (λ c. omega arith)
     (λ c. omega arith)
-    sixteen-requires
+    (λ c κs. simp (length-take, length-drop) (omega arith))
     (λ c. omega arith)
     loop-again
     (λ c. omega arith)

@@ -17,17 +17,6 @@ Inv-loop s₀ at end n i₀ s i = (at + n ≡ end) × (i ≤ n) × (s ≡ moved 
 abbrev μ-loop : tie.MeasureT-loop
 μ-loop s₀ at end n i₀ s i = n - i
 
-returns : tie.Need-returns Inv-loop μ-loop
-unfolding toFront
-returns c = rw (toFront, lt-leb _ _ (c .if1 .taken))
-
-returns-2 : tie.Need-returns-2 Inv-loop μ-loop
-unfolding toFront
-returns-2 c = rw (toFront, le-leb _ _ (c .before .if1 .left), lt-leb _ _ (c .if2 .taken))
-
-loop-holds : tie.Need-loop-holds Inv-loop μ-loop
-loop-holds c = (omega arith, omega arith, refl)
-
 slice-read-s : tie.Need-slice-read-s Inv-loop μ-loop
 slice-read-s c =
     let p2 = c .before .before in
@@ -61,14 +50,13 @@ returns-3 c =
     rw (toFront, le-leb _ _ (p3 .if1 .left), le-leb _ _ (p2 .if2 .left), e) (c .before .loop .inv .2)
 
 pub to-front-spec : {M : Type 1} → statement M
+unfolding toFront
 to-front-spec =
     tie.close
-    (tie.spec
-    Inv-loop
-    μ-loop
-    returns
-    returns-2
-    loop-holds
+    (tie.spec Inv-loop μ-loop
+    (λ c. rw (toFront, lt-leb _ _ (c .if1 .taken)))
+    (λ c. rw (toFront, le-leb _ _ (c .before .if1 .left), lt-leb _ _ (c .if2 .taken)))
+    (λ c. (omega arith, omega arith, refl))
     (λ c. search needs)
     slice-read-s
     slice-write-s

@@ -23,15 +23,8 @@ examine-requires c κs =
     let p6 = p2 .before .before .before .before in
     answer-accepted (read (p6 .args .e) (p6 .args .s .now)) _ (p2 .read .ensures) (c .enum-told .given .1)
 
-returns-2 : tie.Need-returns-2
-unfolding decided _>>=_
-returns-2 c = rw ((rw (c .enum-told3 .given .1) at (c .before .before .examine .ensures)) .1)
-
-returns-3 : tie.Need-returns-3
-unfolding decided _>>=_
-returns-3 c = rw (rw (c .before .number .given .1) at (c .before .before .before .examine .ensures))
-
 pub check-spec : {M : Type 1} → statement M
+unfolding decided _>>=_
 check-spec =
     tie.close
     (tie.spec
@@ -42,5 +35,5 @@ check-spec =
     examine-requires
     (λ c. search needs)
     (λ c. search needs)
-    returns-2
-    returns-3)
+    (λ c. rw ((rw (c .enum-told3 .given .1) at (c .before .before .examine .ensures)) .1))
+    (λ c. rw (rw (c .before .number .given .1) at (c .before .before .before .examine .ensures))))

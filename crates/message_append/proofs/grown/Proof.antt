@@ -5,11 +5,8 @@ use Rattle.message_append_checks.specs.Inner.{entry, grown}
 use Rattle.message_append.proofs.grown.Statement.{statement}
 use Rattle.message_append.proofs.grown.Tie as tie
 
-returns : tie.Need-returns
-unfolding grown entry
-returns c = search needs
-
 pub grown-spec : {M : Type 1} → statement M
+unfolding grown entry
 grown-spec =
     tie.close
     (tie.spec
@@ -32,4 +29,4 @@ grown-spec =
     (λ c. search needs)
     (λ c. search needs)
     (λ c. search needs)
-    returns)
+    (λ c. search needs))

@@ -10,12 +10,6 @@ use Rattle.message_seal.proofs.Stores.{put-none}
 use Rattle.message_seal.proofs.seal.Statement.{statement}
 use Rattle.message_seal.proofs.seal.Tie as tie
 
-returns : tie.Need-returns
-returns c = sym (put-too-long _ _ _ (omega arith))
-
-slice-aggregate-crc : tie.Need-slice-aggregate-crc
-slice-aggregate-crc c = sym (length-take-le _ _ (c .before .before .before .if1 .left))
-
 returns-2 : tie.Need-returns-2
 returns-2 c =
     let p2 = c .before .before in
@@ -30,10 +24,10 @@ pub seal-spec : {M : Type 1} → statement M
 seal-spec =
     tie.close
     (tie.spec
-    returns
+    (λ c. sym (put-too-long _ _ _ (omega arith)))
     (λ c κs. search needs)
     (λ c. search needs)
-    slice-aggregate-crc
+    (λ c. sym (length-take-le _ _ (c .before .before .before .if1 .left)))
     (λ c κs. search needs)
     (λ c κs. search needs)
     (λ c. search needs)

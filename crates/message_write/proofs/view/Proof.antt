@@ -8,13 +8,10 @@ use Rattle.message_write.specs.Inner.{shown}
 use Rattle.message_write.proofs.view.Statement.{statement}
 use Rattle.message_write.proofs.view.Tie as tie
 
-returns : tie.Need-returns
-unfolding shown padded maxSequences
-returns c = rw (c .no-sequence .ensures, toZ-ofZ (c .before .fits .request-id), toZ-ofZ (c .before .fits .response-to))
-
 pub view-spec : {M : Type 1} → statement M
+unfolding shown padded maxSequences
 view-spec =
     tie.close
     (tie.spec
     (λ c κs. search needs)
-    returns)
+    (λ c. rw (c .no-sequence .ensures, toZ-ofZ (c .before .fits .request-id), toZ-ofZ (c .before .fits .response-to))))

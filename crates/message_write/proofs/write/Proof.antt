@@ -29,14 +29,6 @@ returns c =
 fit : (c : tie.After-enum-told) → let a = c .before .before .before .before .before .args in Fit (a .e) (a .flags) (a .body .now) (length (a .out .now))
 fit c = rw (c .enum-told .given .1) at (c .before .before .before-reading .ensures)
 
-whole-requires : tie.Need-whole-requires
-unfolding wholeLength
-whole-requires c κs = omega (arith, fit (c .before .before .before .before) .limit, maxLength-small)
-
-cast-view : tie.Need-cast-view
-unfolding wholeLength
-cast-view c = omega (arith, fit (c .before .before .before .before .before) .limit, maxLength-small)
-
 written-requires : tie.Need-written-requires
 unfolding wholeLength
 written-requires c κs =
@@ -70,6 +62,7 @@ returns-3 c =
     rw (c .refusal2 .ensures, write-refused (a .e) (a .request-id) (a .response-to) (a .flags) (a .body .now) _ (fit (p4 .before)) (p10 .fits .flags .fits) (sym (p4 .examine-body .ensures) ∙ ap told (p2 .number .given .1))) (refl, refl)
 
 pub write-spec : {M : Type 1} → statement M
+unfolding wholeLength
 write-spec =
     tie.close
     (tie.spec
@@ -80,8 +73,8 @@ write-spec =
     (λ c. search needs)
     (λ c κs. search needs)
     (λ c. search needs)
-    whole-requires
-    cast-view
+    (λ c κs. omega (arith, fit (c .before .before .before .before) .limit, maxLength-small))
+    (λ c. omega (arith, fit (c .before .before .before .before .before) .limit, maxLength-small))
     (λ c κs. search needs)
     written-requires
     (λ c. search needs)

@@ -25,36 +25,25 @@ abbrev μ-loop : tie.MeasureT-loop
 loop-holds : tie.Need-loop-holds Inv-loop μ-loop
 loop-holds c = (length (c .before .args .s .now), omega arith, omega arith, omega arith, rw (add-zero (c .before .args .at), rest-part 0 (c .before .args .s .now)))
 
-cast-i : tie.Need-cast-i Inv-loop μ-loop
-cast-i c =
+-- the document that was passed has five bytes or more, and all of them are in the slice
+passed : (c : tie.After-known-told Inv-loop μ-loop) → let l = c .before .before .before .before .before .before in
+    (5 ≤ c .before .w .given .0 .0) × (l .loop .i + c .before .w .given .0 .0 ≤ length (l .before .before .args .s .now))
+passed c =
     let p3 = c .before .before .before in
     let f = past-framed _ _ _ _ (p3 .document .ensures) (c .before .w .given .1) in
-    omega (arith, f .fits, p3 .before .document-arg .given .2)
-
-add-i : tie.Need-add-i Inv-loop μ-loop
-add-i c =
-    let p3 = c .before .before .before in
-    let f = past-framed _ _ _ _ (p3 .document .ensures) (c .before .w .given .1) in
-    omega (arith, f .fits, p3 .before .document-arg .given .2)
-
-loop-less : tie.Need-loop-less Inv-loop μ-loop
-loop-less c =
-    let f = past-framed _ _ _ _ (c .before .before .before .document .ensures) (c .before .w .given .1) in
-    omega (arith, f .low)
+    (f .low, omega (arith, f .fits, p3 .before .document-arg .given .2))
 
 loop-again : tie.Need-loop-again Inv-loop μ-loop
 loop-again c =
     let p3 = c .before .before .before in
-    let p4 = p3 .before in
-    let p5 = p4 .before in
+    let p5 = p3 .before .before in
     let p6 = p5 .before in
     let p8 = p6 .before .before in
-    let f = past-framed _ _ _ _ (p3 .document .ensures) (c .before .w .given .1) in
     let inv = p6 .loop .inv in (
       inv .0 - 1,
-      omega (arith, f .fits, p4 .document-arg .given .2),
-      omega (arith, f .low),
-      omega (arith, f .low),
+      omega (arith, passed c),
+      omega (arith, passed c),
+      omega (arith, passed c),
       inv .4 ∙ goes-on nextDocument (p8 .args .at) (length (p8 .args .s .now)) (p6 .loop .i) (p8 .args .s .now) _ (p5 .loop-test .taken) (omega arith) (inv .0) (inv .2) _ _
           (next-past _ _ _ _ (p3 .document .ensures) (p6 .loop .number) (c .before .w .given .1)),
     )
@@ -94,10 +83,10 @@ documents-spec =
     (λ c. omega arith)
     (λ c κs. search needs)
     (λ c. search needs)
-    cast-i
-    add-i
+    (λ c. omega (arith, passed c))
+    (λ c. omega (arith, passed c))
     (λ c. omega arith)
-    loop-less
+    (λ c. omega (arith, passed c))
     loop-again
     (λ c. search needs)
     returns

@@ -15,9 +15,6 @@ returns : tie.Need-returns
 unfolding checksumDiffers
 returns c = λ n f. rw (checksumDiffers, ← f, ← c .before .checksummed .ensures, not-true (c .before .checksummed .result) (c .if1 .taken))
 
-slice-aggregate-crc : tie.Need-slice-aggregate-crc
-slice-aggregate-crc c = sym (length-take-le _ _ (omega arith))
-
 returns-2 : tie.Need-returns-2
 unfolding checksumDiffers wordAt
 returns-2 c =
@@ -37,6 +34,6 @@ checksum-differs-spec =
     (λ c. search needs)
     (λ c. search needs)
     (λ c κs. search needs)
-    slice-aggregate-crc
+    (λ c. sym (length-take-le _ _ (omega arith)))
     (λ c κs. search needs)
     returns-2)

@@ -6,12 +6,9 @@ use Rattle.opmsg_flags.proofs.Masks.{common-and}
 use Rattle.opmsg_flags.proofs.all_known.Statement.{statement}
 use Rattle.opmsg_flags.proofs.all_known.Tie as tie
 
-returns : tie.Need-returns
-unfolding allKnown
-returns c = rw (common-and 32 (c .args .flags) (c .args .bits), mod-eq-of-lt (c .fits .flags .fits))
-
 pub all-known-spec : {M : Type 1} → statement M
+unfolding allKnown
 all-known-spec =
     tie.close
     (tie.spec
-    returns)
+    (λ c. rw (common-and 32 (c .args .flags) (c .args .bits), mod-eq-of-lt (c .fits .flags .fits))))

@@ -5,12 +5,6 @@ use Rattle.opmsg.specs.Flags.{checksummed}
 use Rattle.opmsg_flags.proofs.checksummed.Statement.{statement}
 use Rattle.opmsg_flags.proofs.checksummed.Tie as tie
 
-returns : tie.Need-returns
-unfolding checksummed
-returns c = refl
-
 pub checksummed-spec : {M : Type 1} → statement M
-checksummed-spec =
-    tie.close
-    (tie.spec
-    returns)
+unfolding checksummed
+checksummed-spec = tie.close (tie.spec (λ c. refl))

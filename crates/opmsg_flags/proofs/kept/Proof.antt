@@ -6,12 +6,9 @@ use Rattle.opmsg_flags.proofs.Masks.{common-and}
 use Rattle.opmsg_flags.proofs.kept.Statement.{statement}
 use Rattle.opmsg_flags.proofs.kept.Tie as tie
 
-returns : tie.Need-returns
-unfolding kept
-returns c = rw (common-and 32 (c .args .flags) (c .args .bits), mod-eq-of-lt (c .fits .flags .fits))
-
 pub kept-spec : {M : Type 1} → statement M
+unfolding kept
 kept-spec =
     tie.close
     (tie.spec
-    returns)
+    (λ c. rw (common-and 32 (c .args .flags) (c .args .bits), mod-eq-of-lt (c .fits .flags .fits))))

@@ -5,12 +5,6 @@ use Rattle.opmsg_flags.proofs.Masks.{common-and}
 use Rattle.opmsg_flags.proofs.required_known.Statement.{statement}
 use Rattle.opmsg_flags.proofs.required_known.Tie as tie
 
-returns : tie.Need-returns
-unfolding allKnown
-returns c = rw (common-and 16 (c .args .flags) (c .args .bits))
-
 pub required-known-spec : {M : Type 1} → statement M
-required-known-spec =
-    tie.close
-    (tie.spec
-    returns)
+unfolding allKnown
+required-known-spec = tie.close (tie.spec (λ c. rw (common-and 16 (c .args .flags) (c .args .bits))))

@@ -16,9 +16,6 @@ returns c =
     let p2 = c .before .before in
     rw (c .refusal .ensures) (ap answer (sym (halt _ (sym (p2 .before .before .header .ensures) ∙ ap judged (p2 .head .given .1)))))
 
-flagged-requires : tie.Need-flagged-requires
-flagged-requires c κs = headed (sym (c .before .before .header .ensures) ∙ ap judged (c .enum-told .given .1)) .whole
-
 returns-2 : tie.Need-returns-2
 unfolding read
 returns-2 c =
@@ -50,7 +47,7 @@ read-spec =
     (λ c κs. search needs)
     returns
     (λ c. search needs)
-    flagged-requires
+    (λ c κs. headed (sym (c .before .before .header .ensures) ∙ ap judged (c .enum-told .given .1)) .whole)
     (λ c. search needs)
     (λ c κs. search needs)
     returns-2

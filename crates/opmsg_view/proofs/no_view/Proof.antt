@@ -6,13 +6,6 @@ use Rattle.opmsg.specs.View.{padded, noView}
 use Rattle.opmsg_view.proofs.no_view.Statement.{statement}
 use Rattle.opmsg_view.proofs.no_view.Tie as tie
 
-returns : tie.Need-returns
-unfolding noView padded maxSequences
-returns c = rw (c .no-sequence .ensures)
-
 pub no-view-spec : {M : Type 1} → statement M
-no-view-spec =
-    tie.close
-    (tie.spec
-    (λ c κs. search needs)
-    returns)
+unfolding noView padded maxSequences
+no-view-spec = tie.close (tie.spec (λ c κs. search needs) (λ c. rw (c .no-sequence .ensures)))

@@ -5,13 +5,6 @@ use Rattle.opmsg.specs.View.{answer}
 use Rattle.opmsg_view.proofs.refusal.Statement.{statement}
 use Rattle.opmsg_view.proofs.refusal.Tie as tie
 
-returns : tie.Need-returns
-unfolding answer
-returns c = rw (c .no-view .ensures)
-
 pub refusal-spec : {M : Type 1} → statement M
-refusal-spec =
-    tie.close
-    (tie.spec
-    (λ c κs. search needs)
-    returns)
+unfolding answer
+refusal-spec = tie.close (tie.spec (λ c κs. search needs) (λ c. rw (c .no-view .ensures)))

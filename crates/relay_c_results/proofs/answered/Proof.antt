@@ -9,9 +9,6 @@ use Rattle.relay_c_results.proofs.Room.{outcome-refused, outcome-accept
 use Rattle.relay_c_results.proofs.answered.Statement.{statement}
 use Rattle.relay_c_results.proofs.answered.Tie as tie
 
-refusal-requires : tie.Need-refusal-requires
-refusal-requires c κs = let v = c .before in rw (v .verdict .given .1) at (v .before .before .pre)
-
 returns : tie.Need-returns
 unfolding result numbers
 returns c =
@@ -28,10 +25,6 @@ returns-2 c =
     let f = no-room (length (a .args .view .now)) (outcome (a .args .reading)) (c .before .if1 .taken) (outcome-accepted (a .args .reading) (t .enum-told .given .1)) in
     rw f (c .refusal2 .ensures, refl)
 
-show-requires : tie.Need-show-requires
-unfolding viewSize
-show-requires c κs = c .before .before .if1 .left
-
 returns-3 : tie.Need-returns-3
 unfolding result numbers viewSize
 returns-3 c =
@@ -42,15 +35,16 @@ returns-3 c =
     rw f (refl, c .before .show .ensures)
 
 pub answered-spec : {M : Type 1} → statement M
+unfolding viewSize
 answered-spec =
     tie.close
     (tie.spec
     (λ c. search needs)
-    refusal-requires
+    (λ c κs. let v = c .before in rw (v .verdict .given .1) at (v .before .before .pre))
     returns
     (λ c. search needs)
     (λ c κs. search needs)
     returns-2
-    show-requires
+    (λ c κs. c .before .before .if1 .left)
     (λ c. search needs)
     returns-3)

@@ -5,12 +5,6 @@ use Rattle.relay_c_results.specs.Interface.{editionOf}
 use Rattle.relay_c_results.proofs.edition.Statement.{statement}
 use Rattle.relay_c_results.proofs.edition.Tie as tie
 
-returns : tie.Need-returns
-unfolding editionOf
-returns c = refl
-
 pub edition-spec : {M : Type 1} → statement M
-edition-spec =
-    tie.close
-    (tie.spec
-    returns)
+unfolding editionOf
+edition-spec = tie.close (tie.spec (λ c. refl))

@@ -10,26 +10,20 @@ use Rattle.relay_c_results.proofs.Room.{own-refusal, no-room}
 use Rattle.relay_c_results.proofs.without_view.Statement.{statement}
 use Rattle.relay_c_results.proofs.without_view.Tie as tie
 
-refusal-requires : tie.Need-refusal-requires
-refusal-requires c κs = let v = c .before in rw (v .verdict .given .1) at (v .before .before .pre)
-
 returns : tie.Need-returns
 unfolding result
 returns c =
     let v = c .before .before in
     rw (own-refusal 0 _ (ap judged (v .verdict .given .1))) (c .refusal .ensures)
 
-returns-2 : tie.Need-returns-2
-unfolding result viewSize
-returns-2 c = rw (no-room 0 _ (omega arith) (ap judged (c .before .enum-told .given .1))) (c .refusal2 .ensures)
-
 pub without-view-spec : {M : Type 1} → statement M
+unfolding result viewSize
 without-view-spec =
     tie.close
     (tie.spec
     (λ c. search needs)
-    refusal-requires
+    (λ c κs. let v = c .before in rw (v .verdict .given .1) at (v .before .before .pre))
     returns
     (λ c. search needs)
     (λ c κs. search needs)
-    returns-2)
+    (λ c. rw (no-room 0 _ (omega arith) (ap judged (c .before .enum-told .given .1))) (c .refusal2 .ensures)))

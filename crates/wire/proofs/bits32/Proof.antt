@@ -31,17 +31,11 @@ not-below (negsuc n) f h =
     let z : _≡_ {A = ℕ} 0 1 = cc in
     absurd (omega arith)
 
-cast-result : tie.Need-cast-result
-cast-result c = let r = below-zero (c .before .args .x) (c .before .fits .x) (c .if1 .taken) in rw (r .2) (tt, omega arith)
-
-cast-result-2 : tie.Need-cast-result-2
-cast-result-2 c = let r = not-below (c .before .args .x) (c .before .fits .x) (c .if1 .left) in rw (r .2) (tt, omega arith)
-
-returns : tie.Need-returns
-returns c = let r = below-zero (c .before .args .x) (c .before .fits .x) (c .if1 .taken) in rw (r .2) (r .3)
-
-returns-2 : tie.Need-returns-2
-returns-2 c = let r = not-below (c .before .args .x) (c .before .fits .x) (c .if1 .left) in rw (r .2) (r .3)
-
 pub bits32-spec : {M : Type 1} → statement M
-bits32-spec = tie.close (tie.spec cast-result cast-result-2 returns returns-2)
+bits32-spec =
+    tie.close
+    (tie.spec
+    (λ c. let r = below-zero (c .before .args .x) (c .before .fits .x) (c .if1 .taken) in rw (r .2) (tt, omega arith))
+    (λ c. let r = not-below (c .before .args .x) (c .before .fits .x) (c .if1 .left) in rw (r .2) (tt, omega arith))
+    (λ c. let r = below-zero (c .before .args .x) (c .before .fits .x) (c .if1 .taken) in rw (r .2) (r .3))
+    (λ c. let r = not-below (c .before .args .x) (c .before .fits .x) (c .if1 .left) in rw (r .2) (r .3)))

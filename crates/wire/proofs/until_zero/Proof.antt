@@ -15,26 +15,20 @@ Inv-loop s i₀ i = (i ≤ length s) × (untilZero s ≡ i + untilZero (drop i s
 abbrev μ-loop : tie.MeasureT-loop
 μ-loop s i₀ i = length s - i
 
-loop-holds : tie.Need-loop-holds Inv-loop μ-loop
-loop-holds c = omega arith
-
-shared-slice-read-if1 : tie.Need-shared-slice-read-if1 Inv-loop μ-loop
-shared-slice-read-if1 c = omega arith
-
 returns : tie.Need-returns Inv-loop μ-loop
 returns c = let b = c .before .before .before in omega (arith, at-zero (b .before .args .s .now) (b .loop .i) (c .before .before .loop-test .taken) (c .if1 .taken))
-
-add-i : tie.Need-add-i Inv-loop μ-loop
-add-i c = omega arith
-
-loop-less : tie.Need-loop-less Inv-loop μ-loop
-loop-less c = omega arith
 
 loop-again : tie.Need-loop-again Inv-loop μ-loop
 loop-again c = let b = c .before .before .before in omega (arith, past-byte (b .before .args .s .now) (b .loop .i) (c .before .before .loop-test .taken) (c .if1 .left))
 
-returns-2 : tie.Need-returns-2 Inv-loop μ-loop
-returns-2 c = omega (arith, past-all (c .before .before .args .s .now) (c .before .loop .i) (c .loop-test .left))
-
 pub until-zero-spec : {M : Type 1} → statement M
-until-zero-spec = tie.close (tie.spec Inv-loop μ-loop loop-holds shared-slice-read-if1 returns add-i loop-less loop-again returns-2)
+until-zero-spec =
+    tie.close
+    (tie.spec Inv-loop μ-loop
+    (λ c. omega arith)
+    (λ c. omega arith)
+    returns
+    (λ c. omega arith)
+    (λ c. omega arith)
+    loop-again
+    (λ c. omega (arith, past-all (c .before .before .args .s .now) (c .before .loop .i) (c .loop-test .left))))

@@ -7,12 +7,6 @@ use Rattle.wire.proofs.Parts.{put-too-long, put-part}
 use Rattle.wire_put.proofs.put.Statement.{statement}
 use Rattle.wire_put.proofs.put.Tie as tie
 
-returns : tie.Need-returns
-returns c = sym (put-too-long _ _ _ (omega arith))
-
-returns-2 : tie.Need-returns-2
-returns-2 c = sym (put-too-long _ _ _ (omega arith))
-
 returns-3 : tie.Need-returns-3
 returns-3 c =
     let p2 = c .before .before in
@@ -23,9 +17,9 @@ pub put-spec : {M : Type 1} → statement M
 put-spec =
     tie.close
     (tie.spec
-    returns
+    (λ c. sym (put-too-long _ _ _ (omega arith)))
     (λ c. search needs)
-    returns-2
+    (λ c. sym (put-too-long _ _ _ (omega arith)))
     (λ c. search needs)
     (λ c. search needs)
     (λ c. search needs)

@@ -8,18 +8,6 @@ use Rattle.crc32c.proofs.Laws.{byte-halves}
 use Rattle.crc32c.proofs.parts.byte.Statement.{statement}
 use Rattle.crc32c.proofs.parts.byte.Tie as tie
 
-cast-high-half : tie.Need-cast-high-half
-cast-high-half c = search needs
-
-high-half-requires : tie.Need-high-half-requires
-high-half-requires c κs = search needs
-
-cast-low-half : tie.Need-cast-low-half
-cast-low-half c = search needs
-
-low-half-requires : tie.Need-low-half-requires
-low-half-requires c κs = search needs
-
 returns : tie.Need-returns
 returns c =
     let a = c .before .before .args in
@@ -28,4 +16,10 @@ returns c =
 
 pub byte-spec : {M : Type 1} → statement M
 byte-spec =
-    tie.close (tie.spec cast-high-half high-half-requires cast-low-half low-half-requires returns)
+    tie.close
+    (tie.spec
+    (λ c. search needs)
+    (λ c κs. search needs)
+    (λ c. search needs)
+    (λ c κs. search needs)
+    returns)

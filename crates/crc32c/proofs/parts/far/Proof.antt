@@ -12,21 +12,6 @@ Inv-loop near x r₀ k₀ r k = FromTop 64 near x r k
 abbrev μ-loop : tie.MeasureT-loop
 μ-loop near x r₀ k₀ r k = k
 
-loop-holds : tie.Need-loop-holds Inv-loop μ-loop
-loop-holds c = top-start 64 (c .args .near) (c .args .x) (c .fits .x .fits)
-
-sub-k : tie.Need-sub-k Inv-loop μ-loop
-sub-k c = omega arith
-
-place-requires : tie.Need-place-requires Inv-loop μ-loop
-place-requires c κs = omega arith
-
-far-requires : tie.Need-far-requires Inv-loop μ-loop
-far-requires c κs = omega arith
-
-loop-less : tie.Need-loop-less Inv-loop μ-loop
-loop-less c = omega arith
-
 loop-again : tie.Need-loop-again Inv-loop μ-loop
 loop-again c =
     let at = c .before .before .before in
@@ -42,4 +27,12 @@ returns c =
 
 pub far-spec : {M : Type 1} → statement M
 far-spec =
-    tie.close (tie.spec Inv-loop μ-loop loop-holds sub-k place-requires far-requires loop-less loop-again returns)
+    tie.close
+    (tie.spec Inv-loop μ-loop
+    (λ c. top-start 64 (c .args .near) (c .args .x) (c .fits .x .fits))
+    (λ c. omega arith)
+    (λ c κs. omega arith)
+    (λ c κs. omega arith)
+    (λ c. omega arith)
+    loop-again
+    returns)

@@ -12,21 +12,6 @@ Inv-loop x r₀ k₀ r k = FromTop 0 0 x r k
 abbrev μ-loop : tie.MeasureT-loop
 μ-loop x r₀ k₀ r k = k
 
-loop-holds : tie.Need-loop-holds Inv-loop μ-loop
-loop-holds c = top-start 0 0 (c .args .x) (c .fits .x .fits)
-
-sub-k : tie.Need-sub-k Inv-loop μ-loop
-sub-k c = omega arith
-
-place-requires : tie.Need-place-requires Inv-loop μ-loop
-place-requires c κs = omega arith
-
-near-requires : tie.Need-near-requires Inv-loop μ-loop
-near-requires c κs = omega arith
-
-loop-less : tie.Need-loop-less Inv-loop μ-loop
-loop-less c = omega arith
-
 loop-again : tie.Need-loop-again Inv-loop μ-loop
 loop-again c =
     let l = c .before .before .before .loop in
@@ -39,4 +24,12 @@ returns c =
 
 pub near-spec : {M : Type 1} → statement M
 near-spec =
-    tie.close (tie.spec Inv-loop μ-loop loop-holds sub-k place-requires near-requires loop-less loop-again returns)
+    tie.close
+    (tie.spec Inv-loop μ-loop
+    (λ c. top-start 0 0 (c .args .x) (c .fits .x .fits))
+    (λ c. omega arith)
+    (λ c κs. omega arith)
+    (λ c κs. omega arith)
+    (λ c. omega arith)
+    loop-again
+    returns)

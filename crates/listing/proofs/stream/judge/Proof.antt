@@ -6,7 +6,8 @@ use borrow.Author.Needs.{needs}
 use Rattle.opmsg.specs.Flags.{house}
 use Rattle.opmsg.specs.Read.{read}
 use Rattle.listing.specs.Next.{stepOf}
-use Rattle.listing.proofs.Next.{refused-reading, accepted-reading, within-bytes}
+use Rattle.opmsg.proofs.Answered.{answer-refused, answer-accepted}
+use Rattle.listing.proofs.Next.{within-bytes}
 use Rattle.listing.proofs.stream.judge.Statement.{statement}
 use Rattle.listing.proofs.stream.judge.Tie as tie
 
@@ -16,7 +17,7 @@ returns c =
     let p3 = c .before .before .before in
     let start = p3 .before .before .before in
     let is = rw (p3 .before .house .ensures) at (p3 .read .ensures) in
-    (rw (refused-reading (read house (start .args .s .now)) (p3 .read .result) _ _ is (c .before .verdict .given .1)), tt)
+    (rw (answer-refused (read house (start .args .s .now)) (p3 .read .result) is (c .before .verdict .given .1)), tt)
 
 returns-2 : tie.Need-returns-2
 unfolding stepOf
@@ -26,7 +27,7 @@ returns-2 c =
     let start = p4 .before .before .before in
     let v = p4 .read .result .view in
     let is = rw (p4 .before .house .ensures) at (p4 .read .ensures) in
-    let a = accepted-reading (read house (start .args .s .now)) (p4 .read .result) is (p2 .enum-told .given .1) in
+    let a = answer-accepted (read house (start .args .s .now)) (p4 .read .result) is (p2 .enum-told .given .1) in
     let first = toZ-ofZ {w = w32} {z = v .«request_id»} (record { sfits = c .struct-told .given .1 .0 .1 }) in
     let second = toZ-ofZ {w = w32} {z = v .«response_to»} (record { sfits = c .struct-told .given .1 .1 .0 .1 }) in
     (rw (a, first, second), within-bytes house (start .args .s .now) v a)

@@ -8,10 +8,6 @@ use Rattle.listing.specs.Next.{short}
 use Rattle.listing.proofs.stream.short.Statement.{statement}
 use Rattle.listing.proofs.stream.short.Tie as tie
 
-returns : tie.Need-returns
-unfolding short
-returns c = rw (short, lt-ltb _ _ (c .if1 .taken))
-
 returns-2 : tie.Need-returns-2
 unfolding short wordAt
 returns-2 c =
@@ -33,10 +29,11 @@ returns-4 c =
     rw (short, le-ltb _ _ (p3 .before .if1 .left), wordAt, ← p3 .word .ensures, ← p2 .under .ensures, c .before .if2 .left, le-leb _ _ (c .if3 .left))
 
 pub short-spec : {M : Type 1} → statement M
+unfolding short
 short-spec =
     tie.close
     (tie.spec
-    returns
+    (λ c. rw (short, lt-ltb _ _ (c .if1 .taken)))
     (λ c κs. search needs)
     (λ c κs. search needs)
     returns-2

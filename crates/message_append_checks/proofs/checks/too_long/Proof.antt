@@ -9,28 +9,21 @@ use Rattle.opmsg.specs.Layout.{maxLength}
 use Rattle.message_append_checks.proofs.checks.too_long.Statement.{statement}
 use Rattle.message_append_checks.proofs.checks.too_long.Tie as tie
 
-returns : tie.Need-returns
-unfolding maxLength
-returns c = sym (lt-ltb maxLength (c .before .args .old + (c .before .args .n + 6 + c .before .args .d)) (omega arith))
-
 returns-2 : tie.Need-returns-2
 unfolding maxLength
 returns-2 c =
     let p2 = c .before .before in
     sym (lt-ltb maxLength (p2 .args .old + (p2 .args .n + 6 + p2 .args .d)) (omega arith))
 
-returns-3 : tie.Need-returns-3
-unfolding maxLength
-returns-3 c = search needs
-
 pub too-long-spec : {M : Type 1} → statement M
+unfolding maxLength
 too-long-spec =
     tie.close
     (tie.spec
     (λ c. search needs)
-    returns
+    (λ c. sym (lt-ltb maxLength (c .before .args .old + (c .before .args .n + 6 + c .before .args .d)) (omega arith)))
     returns-2
     (λ c. search needs)
     (λ c. search needs)
     (λ c. search needs)
-    returns-3)
+    (λ c. search needs))

@@ -8,18 +8,6 @@ use Rattle.relay_c_results.proofs.Rows.{small, five}
 use Rattle.relay_c_results.proofs.numbers.sequence.Statement.{statement}
 use Rattle.relay_c_results.proofs.numbers.sequence.Tie as tie
 
-slice-set-from-out-2 : tie.Need-slice-set-from-out-2
-slice-set-from-out-2 c = simp length-set (omega arith)
-
-slice-set-from-out-3 : tie.Need-slice-set-from-out-3
-slice-set-from-out-3 c = simp length-set (omega arith)
-
-slice-set-from-out-4 : tie.Need-slice-set-from-out-4
-slice-set-from-out-4 c = simp length-set (omega arith)
-
-slice-set-from-out-5 : tie.Need-slice-set-from-out-5
-slice-set-from-out-5 c = simp length-set (omega arith)
-
 returns : tie.Need-returns
 unfolding sequenceNumbers
 returns c =
@@ -47,18 +35,18 @@ sequence-spec =
     (λ c. search needs)
     (λ c. search needs)
     (λ c. search needs)
-    slice-set-from-out-2
+    (λ c. simp length-set (omega arith))
     (λ c. search needs)
     (λ c. search needs)
     (λ c. search needs)
-    slice-set-from-out-3
+    (λ c. simp length-set (omega arith))
     (λ c. search needs)
     (λ c. search needs)
     (λ c. search needs)
-    slice-set-from-out-4
+    (λ c. simp length-set (omega arith))
     (λ c. search needs)
     (λ c. search needs)
     (λ c. search needs)
-    slice-set-from-out-5
+    (λ c. simp length-set (omega arith))
     (λ c. search needs)
     returns)

@@ -9,51 +9,11 @@ use Rattle.relay_c_results.proofs.Rows.{small, id-fits, id-same, all-sh
 use Rattle.relay_c_results.proofs.numbers.show.Statement.{statement}
 use Rattle.relay_c_results.proofs.numbers.show.Tie as tie
 
-slice-set-from-out : tie.Need-slice-set-from-out
-unfolding viewSize
-slice-set-from-out c = omega arith
-
 cast-out-2 : tie.Need-cast-out-2
 cast-out-2 c = id-fits (c .before .before .before .args .v .«request_id») (record { sfits = c .struct-told .given .1 .0 .1 })
 
-slice-set-from-out-2 : tie.Need-slice-set-from-out-2
-unfolding viewSize
-slice-set-from-out-2 c = simp length-set (omega arith)
-
 cast-out-3 : tie.Need-cast-out-3
 cast-out-3 c = id-fits (c .before .before .before .before .before .args .v .«response_to») (record { sfits = c .struct-told2 .given .1 .1 .0 .1 })
-
-slice-set-from-out-3 : tie.Need-slice-set-from-out-3
-unfolding viewSize
-slice-set-from-out-3 c = simp length-set (omega arith)
-
-slice-set-from-out-4 : tie.Need-slice-set-from-out-4
-unfolding viewSize
-slice-set-from-out-4 c = simp length-set (omega arith)
-
-slice-set-from-out-5 : tie.Need-slice-set-from-out-5
-unfolding viewSize
-slice-set-from-out-5 c = simp length-set (omega arith)
-
-slice-set-from-out-6 : tie.Need-slice-set-from-out-6
-unfolding viewSize
-slice-set-from-out-6 c = simp length-set (omega arith)
-
-slice-set-from-out-7 : tie.Need-slice-set-from-out-7
-unfolding viewSize
-slice-set-from-out-7 c = simp length-set (omega arith)
-
-slice-set-from-out-8 : tie.Need-slice-set-from-out-8
-unfolding viewSize
-slice-set-from-out-8 c = simp length-set (omega arith)
-
-table-requires : tie.Need-table-requires
-unfolding viewSize
-table-requires c κs = simp length-set (omega arith)
-
-same-length : tie.Need-same-length
-unfolding viewSize
-same-length c = c .out .given ∙ simp length-set
 
 returns : tie.Need-returns
 unfolding viewSize
@@ -80,25 +40,26 @@ returns c =
     (c .before .table .ensures)
 
 pub show-spec : {M : Type 1} → statement M
+unfolding viewSize
 show-spec =
     tie.close
     (tie.spec
     (λ c. search needs)
-    slice-set-from-out
+    (λ c. omega arith)
     cast-out-2
-    slice-set-from-out-2
+    (λ c. simp length-set (omega arith))
     cast-out-3
-    slice-set-from-out-3
+    (λ c. simp length-set (omega arith))
     (λ c. search needs)
-    slice-set-from-out-4
+    (λ c. simp length-set (omega arith))
     (λ c. search needs)
-    slice-set-from-out-5
+    (λ c. simp length-set (omega arith))
     (λ c. search needs)
-    slice-set-from-out-6
+    (λ c. simp length-set (omega arith))
     (λ c. search needs)
-    slice-set-from-out-7
+    (λ c. simp length-set (omega arith))
     (λ c. search needs)
-    slice-set-from-out-8
-    table-requires
-    same-length
+    (λ c. simp length-set (omega arith))
+    (λ c κs. simp length-set (omega arith))
+    (λ c. c .out .given ∙ simp length-set)
     returns)
