@@ -2,9 +2,10 @@
 
 README.md names every crate in its map. It and the papers in docs/ name files below crates/, functions, and in
 PROMISES.md's columns of wrong programs `crate: label, label`, or `crate, crate: all`. Every public function has a
-promise, and those that ask something of their callers are exactly the ones that DECISIONS.md lists. The definitions
-that PROMISES.md says a reader must believe are all of specs/ but the files named Inner.antt; they cite no other, and
-neither do the promises of the calls. Its table of refusals has every number. The listing's own run is the sample.
+promise, and those that ask something of their callers are exactly the ones that DECISIONS.md lists, none of them a
+call of the library. The definitions that PROMISES.md says a reader must believe are all of specs/ but the files named
+Inner.antt; they cite no other, and neither do the promises of the calls. Its table of refusals has every number. The
+listing's own run is the sample.
 """
 
 import glob
@@ -100,6 +101,9 @@ def promises():
         faults.append(f"docs/DECISIONS.md: no word that {crate}::{function} asks something")
     for crate, function in sorted(allowed - asking):
         faults.append(f"docs/DECISIONS.md: {crate}::{function} asks nothing")
+    for crate, _, function in calls():
+        if (crate, function) in asking:
+            faults.append(f"{crate}::{function} is a call of the library, and asks something")
 
 
 CITED = r"Rattle·(\w+?)(?:·specs)?\.specs\.(\w+)\.\{([^}]*)\}"

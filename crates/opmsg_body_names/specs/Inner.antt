@@ -9,6 +9,7 @@ use lib.Bits.{bitAnd, bitOr}
 use lib.Dec.{eqb}
 use Rattle.wire.specs.Bytes.{word}
 use Rattle.opmsg.specs.Names.{among}
+use Rattle.opmsg_element_names.specs.Inner.{lastWord}
 unfoldable pub use Rattle.opmsg_element_names.specs.Inner.{nameText, namesOf}
 
 -- where the mark of a text stands: by its first bytes and its last ones
@@ -16,7 +17,7 @@ abbrev pub spread : ℕ → ℕ → ℕ
 spread first last = (first + 3 * last) * 0x9E3779B / 0x400000 % 2048
 
 unfoldable pub slotOf : List ℕ → ℕ
-slotOf t = spread (word t) (word (drop (lib.ListN.length t - 4) t))
+slotOf t = spread (word t) (lastWord t)
 
 -- a slot's bit in marks, of which each word has 64, is set
 unfoldable pub marked : List ℕ → ℕ → Bool

@@ -1,10 +1,10 @@
 // Check 23: names of elements that must differ.
 use opmsg::Verdict;
 use opmsg::refused;
+use opmsg_element_names::end_words;
 use opmsg_element_names::name;
 use opmsg_element_names::next;
 use opmsg_name_tables::names_differ;
-use wire::word;
 ghost use mathlib.Core.List.{[]};
 ghost use mathlib.Core.Bool.{true};
 ghost use mathlib.Core.Path.{_≡_};
@@ -52,13 +52,8 @@ fn spread(first: u32, last: u32) -> usize
 fn slot(text: &[u8]) -> usize
     ensures { λ r. ⌜ r ≡ slotOf (now (text .entry)) ⌝ }
 {
-    let n = text.len();
-    if n < 4 {
-        let w = word(text);
-        return spread(w, w);
-    }
-    let start = n - 4;
-    spread(word(text), word(&text[start..]))
+    let e = end_words(text);
+    spread(e.first, e.last)
 }
 
 // The bit of a slot in its word.

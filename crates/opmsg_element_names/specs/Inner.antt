@@ -1,10 +1,10 @@
 -- The names of elements, an order of texts, and the first name that equals an earlier one.
 -- Assumes nothing: these are definitions.
-use Prim.Native.Nat.{ℕ, zero, suc, _+_, _<_, _≤_}
+use Prim.Native.Nat.{ℕ, zero, suc, _+_, _-_, _<_, _≤_}
 use mathlib.Core.List.{List}
 use mathlib.Core.Path.{_≡_}
 use lib.ListN.{length, getD, take, drop}
-use Rattle.wire.specs.Bytes.{untilZero}
+use Rattle.wire.specs.Bytes.{word, untilZero}
 use Rattle.bson_elements.specs.Element.{elementSize}
 use Rattle.opmsg.specs.Names.{elementNames, texts}
 use Rattle.opmsg_element_names.specs.declared.Order.{Order}
@@ -27,6 +27,10 @@ WithoutZero t = untilZero t ≡ length t
 -- the name of the element at a place of xs
 abbrev pub textAt : List ℕ → ℕ → List ℕ
 textAt xs p = nameText (drop p xs)
+
+-- the number that the last four bytes of a text hold
+unfoldable pub lastWord : List ℕ → ℕ
+lastWord t = word (drop (length t - 4) t)
 
 -- the element at a place of xs was read: it takes some bytes, and ends within xs
 abbrev pub Read : List ℕ → ℕ → Type 0

@@ -5,15 +5,21 @@ use wire::word;
 ghost use mathlib.Core.Path.{_≡_};
 ghost use Prim.Native.Nat.{ℕ, _+_, _<_, _≤_};
 ghost use lib.ListN.{length, getD, take, drop};
-ghost use Rattle.wire.specs.Bytes.{untilZero};
+ghost use Rattle.wire.specs.Bytes.{word, untilZero};
 ghost use Rattle.bson_elements.specs.Element.{elementSize};
-ghost use Rattle.opmsg_element_names.specs.Inner.{Read, WithoutZero, textAt, Ordered};
+ghost use Rattle.opmsg_element_names.specs.Inner.{Read, WithoutZero, textAt, lastWord, Ordered};
 
 // Which of two texts comes first.
 pub enum Order {
     Before,
     Same,
     After,
+}
+
+// The words at the ends of a text.
+pub struct Words {
+    pub first: u32,
+    pub last: u32,
 }
 
 // The name of the element at a place.
@@ -34,6 +40,24 @@ pub fn next(xs: &[u8], place: usize, n: usize) -> usize
     ensures inside { λ r. ⌜ (place < r) × (r ≤ length (now (xs .entry))) ⌝ }
 {
     place + element_size(&xs[place..], n)
+}
+
+// The numbers that a text's first four bytes hold and its last four, or all of them where there are fewer.
+pub fn end_words(text: &[u8]) -> Words
+    ensures { λ r. ⌜ (r .first ≡ word (now (text .entry))) × (r .last ≡ lastWord (now (text .entry))) ⌝ }
+{
+    if text.len() < 4 {
+        let all = word(text);
+        return Words {
+            first: all,
+            last: all,
+        };
+    }
+    let start = text.len() - 4;
+    Words {
+        first: word(text),
+        last: word(&text[start..]),
+    }
 }
 
 // How many bytes two runs have in common at their start, or some fewer: by four at a time.

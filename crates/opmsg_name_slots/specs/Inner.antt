@@ -6,7 +6,7 @@ use mathlib.Core.Path.{_≡_}
 use lib.ListN.{length, getD, drop}
 use lib.Bits.{bitAnd}
 use Rattle.wire.specs.Bytes.{word}
-use Rattle.opmsg_element_names.specs.Inner.{textAt, First}
+use Rattle.opmsg_element_names.specs.Inner.{textAt, lastWord, First}
 use Rattle.opmsg_name_slots.specs.declared.Probe.{Probe}
 use Rattle.opmsg_name_slots.specs.declared.Probe.the-variants.{Known, Open, Crowd}
 use Rattle.opmsg_name_slots.specs.declared.Tried.{Tried}
@@ -21,7 +21,7 @@ abbrev pub mixed : (n first last middle : ℕ) → ℕ
 mixed n first last middle = (n % 256 + first + 3 * last + 5 * middle) * 0x9E3779B / 0x400000
 
 unfoldable pub hashOf : List ℕ → ℕ
-hashOf t = mixed (length t) (word t) (word (drop (length t - 4) t)) (word (drop (length t / 2) t))
+hashOf t = mixed (length t) (word t) (lastWord t) (word (drop (length t / 2) t))
 
 -- the slot where a text belongs, of so many
 unfoldable pub homeOf : (slots : ℕ) → List ℕ → ℕ

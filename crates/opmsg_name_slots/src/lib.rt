@@ -1,6 +1,7 @@
 // Check 23 by slots that a name's bytes lead to.
 use opmsg_element_names::Order;
 use opmsg_element_names::against;
+use opmsg_element_names::end_words;
 use opmsg_element_names::name;
 use opmsg_element_names::next;
 use wire::word;
@@ -39,15 +40,9 @@ fn mixed(n: usize, first: u32, last: u32, middle: u32) -> usize
 fn hash(text: &[u8]) -> usize
     ensures { λ r. ⌜ r ≡ hashOf (now (text .entry)) ⌝ }
 {
-    let n = text.len();
-    let half = n / 2;
-    let middle = word(&text[half..]);
-    if n < 4 {
-        let w = word(text);
-        return mixed(n, w, w, middle);
-    }
-    let start = n - 4;
-    mixed(n, word(text), word(&text[start..]), middle)
+    let half = text.len() / 2;
+    let e = end_words(text);
+    mixed(text.len(), e.first, e.last, word(&text[half..]))
 }
 
 // The slot where a text belongs, of so many.

@@ -48,7 +48,7 @@ fn by_large_blocks(xs: &[u8]) -> usize
     by_blocks(xs, &mut table)
 }
 
-// The same by slots, which serve while names stand a step behind where they belong, all together so many steps.
+// The same by slots, while names stand at most so many steps behind where they belong, all together; then by a large table.
 fn by_slots_first(xs: &[u8], number: usize) -> usize
     requires { ⌜ Filled (now xs) × (length (now xs) < 2 ^ 32) ⌝ }
     ensures { λ r. ⌜ First (now (xs .entry)) r ⌝ }

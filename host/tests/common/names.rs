@@ -134,9 +134,7 @@ impl Family {
             Family::LongUsual => [&common(40)[..], &usual(index)].concat(),
             Family::UsualLengths => two.iter().copied().cycle().take(length).collect(),
             Family::OneSlot => [b"part", &two[..], b"number"].concat(),
-            Family::LongSlot => {
-                [&common(40)[..], &two[..], b"behind it"][..].concat()[..48].to_vec()
-            }
+            Family::LongSlot => [&common(40)[..], &two[..], b"readings"].concat(),
             Family::Prefix | Family::LongPrefix => [&common(length), &two[..]].concat(),
             Family::Suffix | Family::LongSuffix => [&two[..], &common(length)].concat(),
             Family::Lengths => vec![b'n'; length],
