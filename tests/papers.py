@@ -5,7 +5,8 @@ PROMISES.md's columns of wrong programs `crate: label, label`, or `crate, crate:
 promise, and those that ask something of their callers are exactly the ones that DECISIONS.md lists, none of them a
 call of the library. The definitions that PROMISES.md says a reader must believe are all of specs/ but the files named
 Inner.antt; they cite no other, and neither do the promises of the calls. Its table of refusals has every number. The
-listing's own run is the sample.
+listing's own run is the sample. Each change request that GLOSSARY.md says is built has its page in docs/changes, and
+no other has.
 """
 
 import glob
@@ -163,11 +164,24 @@ def sample():
             faults.append(f"crates/relay_log/{ours} is not samples/{sample}")
 
 
+def changes():
+    row = re.search(r"built so far: ([^;|]*)", paper("docs/GLOSSARY.md"))[1]
+    built = {f"CR-{int(number):02}.md" for number in re.findall(r"CR (\d+)", row)}
+    pages = {file.name for file in (ROOT / "docs/changes").iterdir()}
+    for page in sorted(built ^ pages):
+        faults.append(f"docs/GLOSSARY.md and docs/changes differ in {page}")
+    for page in sorted(pages):
+        for heading in ("## What moved", "## What stayed", "## Measured"):
+            if heading not in paper(f"docs/changes/{page}").splitlines():
+                faults.append(f"docs/changes/{page}: no {heading}")
+
+
 crates_in_readme()
 promises()
 believed()
 every_refusal()
 sample()
+changes()
 for name in ("docs/PROMISES.md", "docs/DECISIONS.md", "docs/GLOSSARY.md"):
     files_and_functions(name)
 for name in ("README.md", "docs/RUNNING.md"):

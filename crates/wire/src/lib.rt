@@ -48,10 +48,7 @@ pub fn until_zero(s: &[u8]) -> usize
     ensures { λ r. ⌜ r ≡ untilZero (now (s .entry)) ⌝ }
 {
     let mut i = 0;
-    while i < s.len() {
-        if s[i] == 0 {
-            return i;
-        }
+    while i < s.len() && s[i] != 0 {
         i += 1;
     }
     i
