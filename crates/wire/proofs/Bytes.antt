@@ -13,7 +13,7 @@ use lib.Dec.{ltb, leb, eqb}
 use lib.IntN.{ℤ, pos, negsuc}
 use mir.Syntax.{w32}
 use mir.Val.{SFits}
-use borrow.Author.Tests.{ltb-false, leb-false, lt-ltb, le-ltb, lt-leb, eqb-true, eq-eqb, ne-eqb}
+use borrow.Author.Tests.{ltb-false, leb-false, lt-ltb, le-ltb, lt-leb, eqb-true}
 use Rattle.wire.proofs.Agree.{agree-word, agree-append}
 use Rattle.wire.specs.Bytes.{Bytes, word, wordAt, under, signed, bits32, le32, untilZero}
 
@@ -129,11 +129,11 @@ until-zero (x ∷ l) h = go (eqb x 0) refl (until-zero l)
     go false e ih = rw (until-go x l e) (ih (omega (arith, until-go x l e)))
 
 -- the search at place i: a zero stands there; another byte does; there is nothing left
-pub at-zero : (xs : List ℕ) (i : ℕ) → i < length xs → getD xs i 0 ≡ 0 → untilZero (drop i xs) ≡ 0
-at-zero xs i h z = rw (drop-cons xs i 0 h) (until-stop _ _ (eq-eqb _ _ z))
+pub at-zero : (xs : List ℕ) (i : ℕ) → i < length xs → eqb (getD xs i 0) 0 ≡ true → untilZero (drop i xs) ≡ 0
+at-zero xs i h z = rw (drop-cons xs i 0 h) (until-stop _ _ z)
 
-pub past-byte : (xs : List ℕ) (i : ℕ) → i < length xs → (getD xs i 0 ≡ 0 → ⊥) → untilZero (drop i xs) ≡ suc (untilZero (drop (i + 1) xs))
-past-byte xs i h z = rw (add-one, drop-cons xs i 0 h) (until-go _ _ (ne-eqb _ _ z))
+pub past-byte : (xs : List ℕ) (i : ℕ) → i < length xs → eqb (getD xs i 0) 0 ≡ false → untilZero (drop i xs) ≡ suc (untilZero (drop (i + 1) xs))
+past-byte xs i h z = rw (add-one, drop-cons xs i 0 h) (until-go _ _ z)
 
 pub past-all : (xs : List ℕ) (i : ℕ) → length xs ≤ i → untilZero (drop i xs) ≡ 0
 unfolding untilZero

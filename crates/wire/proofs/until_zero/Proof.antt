@@ -4,7 +4,7 @@ use Prim.Native.Nat.{_≤_, _+_, _-_}
 use native.Mathlib.Omega.{arith}
 use mathlib.Core.Path.{_≡_}
 use lib.ListN.{length, drop}
-use borrow.Author.Tests.{eqb-true, eqb-false, not-true, not-false}
+use borrow.Author.Tests.{not-true, not-false}
 use Rattle.wire.specs.Bytes.{untilZero}
 use Rattle.wire.proofs.Bytes.{at-zero, past-byte, past-all}
 use Rattle.wire.proofs.until_zero.Statement.{statement}
@@ -19,12 +19,12 @@ abbrev μ-loop : tie.MeasureT-loop
 loop-again : tie.Need-loop-again Inv-loop μ-loop
 loop-again c =
     let b = c .before .before .before in
-    omega (arith, past-byte (b .before .args .s .now) (b .loop .i) (c .before .before .loop-test .taken) (eqb-false _ 0 (not-true _ (c .if1 .taken))))
+    omega (arith, past-byte (b .before .args .s .now) (b .loop .i) (c .before .before .loop-test .taken) (not-true _ (c .if1 .taken)))
 
 at-a-zero : tie.Need-returns Inv-loop μ-loop
 at-a-zero c =
     let b = c .before .before .before in
-    omega (arith, at-zero (b .before .args .s .now) (b .loop .i) (c .before .before .loop-test .taken) (eqb-true _ 0 (not-false _ (c .if1 .left))))
+    omega (arith, at-zero (b .before .args .s .now) (b .loop .i) (c .before .before .loop-test .taken) (not-false _ (c .if1 .left)))
 
 at-the-end : tie.Need-returns-2 Inv-loop μ-loop
 at-the-end c = omega (arith, past-all (c .before .before .args .s .now) (c .before .loop .i) (c .loop-test .left))
