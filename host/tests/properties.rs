@@ -1,5 +1,6 @@
 //! What document 00 demands of the calls together, run on random messages:
-//! the round trip, and what two editions make of one message.
+//! the round trip, and what two editions make of one message. With it, what
+//! change request 13 says of any chain of relays.
 //!
 //! RELAY_CASES sets the number of messages (20,000 if not set), RELAY_SEED the
 //! seed.
@@ -9,8 +10,9 @@ mod common;
 use common::generate::*;
 use common::message::get_u32;
 use common::random::Random;
-use common::setting;
+use common::{reference, setting};
 use relay::{append, forward, read, write, Edition, Refusal, View, MAX_LENGTH};
+use std::cell::Cell;
 
 fn cases() -> u64 {
     setting("RELAY_CASES", 20_000)
@@ -32,9 +34,21 @@ fn for_cases(one_in: u64, property: impl Fn(&mut Random) -> bool) {
     );
 }
 
+fn count(seen: &Cell<u64>) {
+    seen.set(seen.get() + 1);
+}
+
 fn any_relay(random: &mut Random) -> Edition {
     let edition = any_edition(random);
     Edition {
+        bits: edition.bits,
+        sequences: edition.sequences,
+    }
+}
+
+/// The same edition for the independent reader.
+fn as_reference(edition: &Edition) -> reference::Edition {
+    reference::Edition {
         bits: edition.bits,
         sequences: edition.sequences,
     }
@@ -56,11 +70,7 @@ fn older_than(random: &mut Random, newer: &Edition) -> Edition {
 
 /// A message for this edition, mostly accepted, at times with bytes after it.
 fn any_message(random: &mut Random, edition: &Edition) -> Vec<u8> {
-    let known = common::reference::Edition {
-        bits: edition.bits,
-        sequences: edition.sequences,
-    };
-    let mut message = any_draft(random, &known).bytes();
+    let mut message = any_draft(random, &as_reference(edition)).bytes();
     if random.percent(20) {
         message.extend(random.bytes(9));
     }
@@ -131,8 +141,8 @@ fn forwarding_shows_what_reading_shows() {
 
 #[test]
 fn an_older_edition_accepts_just_what_it_knows() {
-    let refused_8 = std::cell::Cell::new(0);
-    let refused_10 = std::cell::Cell::new(0);
+    let refused_8 = Cell::new(0);
+    let refused_10 = Cell::new(0);
     for_cases(2, |random| {
         let newer = any_relay(random);
         let older = older_than(random, &newer);
@@ -145,11 +155,11 @@ fn an_older_edition_accepts_just_what_it_knows() {
         let required = get_u32(&message, 16) & 0xFFFF;
         if required & !older.bits != 0 {
             assert_eq!(answer, Err(Refusal::UnknownFlag(16)));
-            refused_8.set(refused_8.get() + 1);
+            count(&refused_8);
         } else if !older.sequences && !shown.sequences().is_empty() {
             let kind = shown.sequences()[0].identifier_start - 5;
             assert_eq!(answer, Err(Refusal::UnknownKind(kind)));
-            refused_10.set(refused_10.get() + 1);
+            count(&refused_10);
         } else {
             let mut expected = shown;
             expected.flags &= older.bits;
@@ -197,6 +207,100 @@ fn two_relays_forward_the_same_in_either_order() {
         let (_, two_then_one) = forwarded(&one, &after_two);
         assert!(one_then_two == two_then_one);
         true
+    });
+}
+
+/// One to six relays, most of which differ in optional bits alone, and a
+/// message for one of them.
+fn any_chain(random: &mut Random) -> (Vec<Edition>, Vec<u8>) {
+    let about = any_relay(random);
+    let count = random.between(1, 6);
+    let chain: Vec<Edition> = (0..count)
+        .map(|_| match random.below(12) {
+            0 => any_relay(random),
+            1 => older_than(random, &about),
+            2..=4 => about,
+            _ => Edition {
+                bits: about.bits & 0xFFFF | (random.next() as u32 | random.next() as u32) & !0xFFFF,
+                sequences: about.sequences || random.percent(30),
+            },
+        })
+        .collect();
+    let maker = random.pick(&chain);
+    let message = any_message(random, &maker);
+    (chain, message)
+}
+
+/// The bytes after the last relay, each with an output of its own, often with
+/// no byte to spare; or which relay refuses what it gets, and how.
+fn through(
+    random: &mut Random,
+    chain: &[Edition],
+    message: &[u8],
+) -> Result<Vec<u8>, (usize, Refusal)> {
+    let mut bytes = message.to_vec();
+    for (index, edition) in chain.iter().enumerate() {
+        let spare = random.pick(&[0, 0, 1, 100]);
+        let length = get_u32(&bytes, 0) as usize + spare;
+        let mut output = vec![random.byte(); length];
+        match forward(edition, &bytes, &mut output) {
+            Ok(view) => output.truncate(view.length),
+            Err(refusal) => return Err((index, refusal)),
+        }
+        bytes = output;
+    }
+    Ok(bytes)
+}
+
+#[test]
+fn a_chain_forwards_what_one_relay_does() {
+    let chains = [const { Cell::new(0) }; 7];
+    let cleared_later = Cell::new(0);
+    let sealed_anew = Cell::new(0);
+    for_cases(4, |random| {
+        let (chain, message) = any_chain(random);
+        if chain.iter().any(|edition| read(edition, &message).is_err()) {
+            return false;
+        }
+        let last = through(random, &chain, &message).expect("all accept the message");
+        let one = Edition {
+            bits: chain.iter().fold(!0, |bits, edition| bits & edition.bits),
+            sequences: chain.iter().all(|edition| edition.sequences),
+        };
+        assert!(last == forwarded(&one, &message).1);
+        let (_, expected) = reference::forward(&as_reference(&one), &message, MAX_LENGTH)
+            .expect("accepted, with room");
+        assert!(last == expected);
+        let reversed: Vec<Edition> = chain.iter().rev().copied().collect();
+        assert!(through(random, &reversed, &message) == Ok(last));
+
+        count(&chains[chain.len()]);
+        let flags = get_u32(&message, 16);
+        if flags & chain[0].bits & !one.bits != 0 {
+            count(&cleared_later);
+            if flags & 1 != 0 {
+                count(&sealed_anew);
+            }
+        }
+        true
+    });
+    for (length, chains) in chains.iter().enumerate().skip(1) {
+        assert!(chains.get() >= cases() / 30, "chains of {length}");
+    }
+    assert!(cleared_later.get() >= cases() / 20);
+    assert!(sealed_anew.get() >= cases() / 100);
+}
+
+#[test]
+fn a_chain_refuses_at_the_first_relay_that_refuses_the_message() {
+    for_cases(50, |random| {
+        let (chain, message) = any_chain(random);
+        let refusing = chain
+            .iter()
+            .enumerate()
+            .find_map(|(index, edition)| Some((index, read(edition, &message).err()?)));
+        assert_eq!(through(random, &chain, &message).err(), refusing);
+        refusing.is_some_and(|(index, _)| index > 0)
     });
 }
 

@@ -6,6 +6,7 @@ use mathlib.Core.Path.{_≡_, refl, sym, ap, _∙_}
 use mathlib.Core.List.{List, [], _∷_}
 use mathlib.Core.Logic.{_↔_}
 use native.Mathlib.Omega.{arith}
+use lib.Dec.{T}
 use Rattle.wire.specs.Outcome.{ok, refused}
 use Rattle.wire.proofs.Outcome.{ok-same, passed, went, pass, stop, go-on, halt}
 use Rattle.opmsg.specs.Flags.{kept, allKnown, knows}
@@ -26,18 +27,23 @@ use Rattle.message.proofs.Forwarded.{required, view-flags, forwarded-ag
 newer-bits : {new old : Edition} → Newer new old → Known 32 (old .bits) (new .bits)
 newer-bits {new} {old} n = bits-known 32 (old .bits) (new .bits) (n .bits)
 
-newer-kinds : (new old : Edition) (qs : List Section) → Newer new old → KnowsKinds old qs → KnowsKinds new qs
-newer-kinds new old [] n k = tt
-newer-kinds new old (q ∷ qs) n k = (n .kinds (kindOf q) (k .0), newer-kinds new old qs n (k .1))
+-- an edition that knows at least the kinds that another knows
+pub more-kinds : (a b : Edition) (qs : List Section) → ((kind : ℕ) → T (knows a kind) → T (knows b kind)) → KnowsKinds a qs → KnowsKinds b qs
+more-kinds a b [] n k = tt
+more-kinds a b (q ∷ qs) n k = (n (kindOf q) (k .0), more-kinds a b qs n (k .1))
 
 module _ (new old : Edition) (s : List ℕ) (v : View) (h : read new s ≡ ok v) where
   knows-required : KnowsBits 16 old s → not (allKnown 16 (old .bits) (flagWord s)) ≡ false
   knows-required b = known-allKnown 16 (old .bits) (flagWord s) (bits-known 16 (flagWord s) (old .bits) b)
 
+  -- an edition that knows the required bits and the kinds of a message accepts it
+  pub knowing-accepts : KnowsBits 16 old s → KnowsKinds old (sectionsOf new s) → read old s ≡ ok (withFlags v (kept (old .bits) (flagWord s)))
+  knowing-accepts b k = read-answer new old s v h ∙ pass 8 16 _ (knows-required b) ∙ go-on _ (kinds-known old (sectionsOf new s) k)
+
   older-accepts : Accepts old s ↔ (KnowsBits 16 old s × KnowsKinds old (sectionsOf new s))
   older-accepts = (
     λ (w, k). (known-bits 16 (flagWord s) (old .bits) (required old s w k), accepts-kinds new old s v w h k),
-    λ (b, k). (withFlags v (kept (old .bits) (flagWord s)), read-answer new old s v h ∙ pass 8 16 _ (knows-required b) ∙ go-on _ (kinds-known old (sectionsOf new s) k)),
+    λ (b, k). (_, knowing-accepts b k),
   )
 
   older-shows : (w : View) → Newer new old → read old s ≡ ok w → w ≡ withFlags v (kept (old .bits) (v .flags))
@@ -85,16 +91,16 @@ forward-accepted new old s v out n h l =
     let g : kept (new .bits) (v .flags) ≡ v .flags =
     ap (kept (new .bits)) f ∙ kept-swap (old .bits) (new .bits) (flagWord s) ∙ kept-within (new .bits) (old .bits) (flagWord s) (newer-bits n) ∙ sym f in
     rw (sent-forwarded old s v h out l)
-    (forwarded-answer old s v h new k (newer-kinds new old (sectionsOf old s) n (accepts-kinds old old s v v h h)) ∙ ap (λ (x : ℕ). ok (withFlags v x)) g)
+    (forwarded-answer old s v h new k (more-kinds old new (sectionsOf old s) (n .kinds) (accepts-kinds old old s v v h h)) ∙ ap (λ (x : ℕ). ok (withFlags v x)) g)
 
 -- two relays that accept a message
 module _ (a b : Edition) (s : List ℕ) (v w : View) (out : List ℕ) (h : read a s ≡ ok v) (k : read b s ≡ ok w) (l : Room s out) where
-  second-accepts : read b (sent a s out) ≡ ok (withFlags v (kept (b .bits) (v .flags)))
+  pub second-accepts : read b (sent a s out) ≡ ok (withFlags v (kept (b .bits) (v .flags)))
   second-accepts =
       let q : Known 16 (v .flags) (b .bits) = rw (view-flags a s v h) (kept-known 16 (a .bits) (b .bits) (flagWord s) (required b s w k)) in
       rw (sent-forwarded a s v h out l) (forwarded-answer a s v h b q (accepts-kinds a b s v w h k))
 
-  second-sends : (out′ : List ℕ) → Room (sent a s out) out′ → sent b (sent a s out) out′ ≡ forwarded s (withFlags v (kept (b .bits) (kept (a .bits) (flagWord s))))
+  pub second-sends : (out′ : List ℕ) → Room (sent a s out) out′ → sent b (sent a s out) out′ ≡ forwarded s (withFlags v (kept (b .bits) (kept (a .bits) (flagWord s))))
   second-sends out′ l′ =
       sent-forwarded b (sent a s out) _ second-accepts out′ l′
       ∙ ap (λ (m : List ℕ). forwarded m (withFlags v (kept (b .bits) (v .flags)))) (sent-forwarded a s v h out l)

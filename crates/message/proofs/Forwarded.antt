@@ -23,8 +23,8 @@ use Rattle.message.specs.Editions.{sectionsOf, KnowsKinds, withFlags, Ro
 use Rattle.opmsg.specs.declared.Edition.{Edition}
 use Rattle.opmsg.specs.declared.View.{View}
 use Rattle.opmsg.proofs.Accepted.{Differ, reads, accepted}
-use Rattle.message.proofs.Answers.{kinds-known, read-answer}
-use Rattle.opmsg.proofs.Bits.{Known, known-self, allKnown-known, known-allKnown, kept-lt, kept-within, kept-known, kept-bit0}
+use Rattle.message.proofs.Answers.{kinds-known, read-answer, accepts-kinds}
+use Rattle.opmsg.proofs.Bits.{Known, known-self, allKnown-known, known-allKnown, kept-lt, kept-within, kept-known, known-kept, kept-bit0}
 use Rattle.message.proofs.Message.{Headed, Seen, message-word, message-header, message-seen, header-word, stated-end, headed}
 
 same-view : (e : Edition) (m s : List ℕ) (p : Parts) → wordAt 0 m ≡ wordAt 0 s → wordAt 4 m ≡ wordAt 4 s → wordAt 8 m ≡ wordAt 8 s
@@ -88,6 +88,14 @@ module _ (e : Edition) (s : List ℕ) (v : View) (h : read e s ≡ ok v) where
       let b = known-allKnown 16 (r .bits) (flagWord (forwarded s v)) (rw (forwarded-seen .flags) k) in
       read-answer e r (forwarded s v) v own-forward ∙ pass 8 16 _ b
       ∙ go-on _ (rw (forwarded-parts e) (kinds-known r (sectionsOf e s) u)) ∙ rw (forwarded-seen .flags)
+
+  -- and such a relay alone, which knows those of the message then
+  pub forwarded-knows : (r : Edition) (w : View) → read r (forwarded s v) ≡ ok w → Known 16 (flagWord s) (r .bits) × KnowsKinds r (sectionsOf e s)
+  forwarded-knows r w k =
+      let b = rw (forwarded-seen .flags, view-flags) at (allKnown-known 16 (r .bits) (flagWord (forwarded s v)) (reads k .bits)) in (
+        known-kept 16 (e .bits) (flagWord s) (r .bits) (omega arith) required b,
+        rw (forwarded-parts e) at (accepts-kinds e r (forwarded s v) v w own-forward k),
+      )
 
   -- given room, that is what the relay forwards
   pub sent-forwarded : (out : List ℕ) → Room s out → sent e s out ≡ forwarded s v

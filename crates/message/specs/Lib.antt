@@ -4,6 +4,7 @@ pub mod Write
 pub mod Append
 pub mod Editions
 pub mod Demand3
+pub mod Chain
 pub mod RoundTrip
 pub mod Refusals
 pub mod WrittenMessages

@@ -1,13 +1,14 @@
 -- Laws of sets of flag bits: bit by bit, and what is left of a flag word kept to several of them.
 -- Assumes nothing.
 use Prim.Native.Nat.{ℕ, zero, suc, _+_, _*_, _/_, _%_, _^_, _<_, _≤_, min}
-use mathlib.Core.Bool.{Bool, true, false, not}
+use mathlib.Core.Bool.{Bool, true, false, not, _&&_}
 use mathlib.Core.Path.{_≡_, refl, sym, ap, _∙_}
 use native.Mathlib.Omega.{arith}
 use native.Mathlib.Nat.{mod-one, mod-eq-of-lt, div-one}
 use native.Mathlib.Numerals.{add-one, one-add}
 use lib.Dec.{T, eqb, eqb→eq}
 use lib.Pow.{mod-pow-add, shr-shr}
+use mir.Facts.{yes-and}
 use borrow.Author.Tests.{eqb-true, eqb-false, eq-eqb, not-false}
 use Rattle.opmsg.specs.Flags.{bit, common, kept, allKnown, checksummed}
 
@@ -118,6 +119,20 @@ known-bits zero a b h i l = absurd (omega arith)
 known-bits (suc k) a b h zero l = rw (bit-zero a, bit-zero b) (known-low a b (h .0))
 known-bits (suc k) a b h (suc i) l = rw (← bit-half i a, ← bit-half i b) (known-bits k (a / 2) (b / 2) (h .1) i (omega arith))
 
+-- the bits that two sets both have
+min-bits : (x y : ℕ) → x < 2 → y < 2 → eqb (min x y) 1 ≡ eqb x 1 && eqb y 1
+min-bits zero y h k = let e : min 0 y ≡ 0 = omega arith in rw e
+min-bits (suc zero) zero h k = refl
+min-bits (suc zero) (suc zero) h k = refl
+min-bits (suc zero) (suc (suc y)) h k = absurd (omega arith)
+min-bits (suc (suc x)) y h k = absurd (omega arith)
+
+pub common-bit : (k a b i : ℕ) → i < k → bit i (common k a b) ≡ bit i a && bit i b
+common-bit zero a b i l = absurd (omega arith)
+common-bit (suc k) a b zero l = rw (bit-zero (common (suc k) a b), bit-zero a, bit-zero b, low k a b) (min-bits (a % 2) (b % 2) (omega arith) (omega arith))
+common-bit (suc k) a b (suc i) l =
+    rw (← bit-half i (common (suc k) a b), ← bit-half i a, ← bit-half i b, high k a b) (common-bit k (a / 2) (b / 2) i (omega arith))
+
 -- keeping to known bits
 pub kept-swap : (a b f : ℕ) → kept b (kept a f) ≡ kept a (kept b f)
 unfolding kept
@@ -136,6 +151,14 @@ pub kept-within : (a b f : ℕ) → Known 32 b a → kept b (kept a f) ≡ kept 
 unfolding kept
 kept-within a b f h = common-within 32 f a b h
 
+-- to the same bits by two numbers, and to the bits that two sets both have
+pub kept-same : (a b f : ℕ) → Known 32 a b → Known 32 b a → kept a f ≡ kept b f
+kept-same a b f h k = sym (kept-within b a f h) ∙ sym (kept-swap a b f) ∙ kept-within a b f k
+
+pub kept-both : (a b f : ℕ) → kept (common 32 a b) f ≡ kept b (kept a f)
+unfolding kept
+kept-both a b f = common-comm 32 f (common 32 a b) ∙ common-swap 32 a b f ∙ ap (λ (n : ℕ). common 32 n b) (common-comm 32 a f)
+
 pub kept-known : (k a b f : ℕ) → Known k f b → Known k (kept a f) b
 unfolding kept
 kept-known k a b f h = known-common k 32 f a b h
@@ -143,6 +166,12 @@ kept-known k a b f h = known-common k 32 f a b h
 pub kept-known′ : (k a b f : ℕ) → Known k a b → Known k (kept a f) b
 unfolding kept
 kept-known′ k a b f h = rw (common-comm 32 f a) (known-common k 32 a f b h)
+
+-- known bits are not cleared: who knows those that are left knows them
+pub known-kept : (k a f b : ℕ) → k ≤ 32 → Known k f a → Known k (kept a f) b → Known k f b
+unfolding kept
+known-kept k a f b l h g =
+    bits-known k f b λ i j t. known-bits k (common 32 f a) b g i j (rw (common-bit 32 f a i (omega arith)) (yes-and (bit i f) (bit i a) t (known-bits k f a h i j t)))
 
 pub kept-bit0 : (a f : ℕ) → Known 16 f a → checksummed (kept a f) ≡ checksummed f
 unfolding kept checksummed
