@@ -25,6 +25,9 @@ use Rattle.message.proofs.Editions.{more-kinds, knowing-accepts, second
 
 -- ---- equivalences
 
+alone : {A : Type 0} → A ↔ (A × Unit {0})
+alone = (λ a. (a, tt), λ (a, _). a)
+
 given : {A B C : Type 0} → (A → B ↔ C) → (A × B) ↔ (A × C)
 given f = (λ (a, b). (a, f a .0 b), λ (a, c). (a, f a .1 c))
 
@@ -147,7 +150,7 @@ unfolding through shared
 chain r [] = record {
   room = λ s all. Iff·rfl;
   accept = λ s rooms. Iff·rfl;
-  known = record { bits = λ i l. (λ h. (h, tt), λ (h, _). h); kinds = λ kind. (λ h. (h, tt), λ (h, _). h) };
+  known = record { bits = λ i l. alone; kinds = λ kind. alone };
   bytes = λ one s out ((v, h), _) (l, _) k m. ((_, one-accepts r one s v h k), one-sends r one s v h k out l m);
 }
 chain r (q ∷ rs) =
