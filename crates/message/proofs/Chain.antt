@@ -15,13 +15,13 @@ use Rattle.opmsg.specs.Sections.{Section, kindOf}
 use Rattle.opmsg.specs.Read.{read}
 use Rattle.opmsg.proofs.Bits.{known-bits, bits-known, common-bit, kept-same, kept-both}
 use Rattle.message.specs.Forward.{forwarded}
-use Rattle.message.specs.Editions.{Accepts, sectionsOf, KnowsBits, KnowsKinds, withFlags, Room, sent}
-use Rattle.message.specs.Chain.{Relay, Accepting, HasRoom, after, through, All, InTurn, KnowsShared, both, shared, Chain}
+use Rattle.message.specs.Editions.{sectionsOf, KnowsKinds, withFlags, Room, sent}
+use Rattle.message.specs.Chain.{Relay, Accepting, HasRoom, after, through, All, KnowsShared, both, shared, Chain}
 use Rattle.opmsg.specs.declared.Edition.{Edition}
 use Rattle.opmsg.specs.declared.View.{View}
 use Rattle.message.proofs.Answers.{accepts-kinds}
-use Rattle.message.proofs.Forwarded.{required, view-flags, forwarded-word, forwarded-knows, sent-forwarded}
-use Rattle.message.proofs.Editions.{more-kinds, knowing-accepts, second-accepts, second-sends}
+use Rattle.message.proofs.Forwarded.{view-flags, forwarded-word, forwarded-knows, sent-forwarded}
+use Rattle.message.proofs.Editions.{more-kinds, required-bits, knowing-accepts, second-accepts, second-sends}
 
 -- ---- equivalences
 
@@ -76,9 +76,6 @@ fused-shared e r q rs =
     )
 
 -- ---- a relay and those behind it
-
-required-bits : (e : Edition) (s : List ℕ) (v : View) → read e s ≡ ok v → KnowsBits 16 e s
-required-bits e s v h = known-bits 16 (flagWord s) (e .bits) (required e s v h)
 
 module _ (r : Relay) (s : List ℕ) (v : View) (h : read (r .edition) s ≡ ok v) (l : HasRoom r s) where
   after-forwarded : after r s ≡ forwarded s v
@@ -135,7 +132,7 @@ module _ (r q : Relay) (s : List ℕ) (v w : View) (h : read (r .edition) s ≡ 
 
   fused-flags : kept (q .edition .bits) (kept (r .edition .bits) (flagWord s)) ≡ kept (fused r q .edition .bits) (flagWord s)
   unfolding both
-  fused-flags = sym (kept-both (r .edition .bits) (q .edition .bits) (flagWord s))
+  fused-flags = kept-both (r .edition .bits) (q .edition .bits) (flagWord s)
 
   fused-sends : HasRoom r s → HasRoom q (after r s) → after q (after r s) ≡ after (fused r q) s
   fused-sends l l′ =

@@ -32,6 +32,10 @@ pub more-kinds : (a b : Edition) (qs : List Section) → ((kind : ℕ) → T (kn
 more-kinds a b [] n k = tt
 more-kinds a b (q ∷ qs) n k = (n (kindOf q) (k .0), more-kinds a b qs n (k .1))
 
+-- an edition that accepts a message knows its required bits
+pub required-bits : (e : Edition) (s : List ℕ) (v : View) → read e s ≡ ok v → KnowsBits 16 e s
+required-bits e s v h = known-bits 16 (flagWord s) (e .bits) (required e s v h)
+
 module _ (new old : Edition) (s : List ℕ) (v : View) (h : read new s ≡ ok v) where
   knows-required : KnowsBits 16 old s → not (allKnown 16 (old .bits) (flagWord s)) ≡ false
   knows-required b = known-allKnown 16 (old .bits) (flagWord s) (bits-known 16 (flagWord s) (old .bits) b)
@@ -42,7 +46,7 @@ module _ (new old : Edition) (s : List ℕ) (v : View) (h : read new s ≡ ok v)
 
   older-accepts : Accepts old s ↔ (KnowsBits 16 old s × KnowsKinds old (sectionsOf new s))
   older-accepts = (
-    λ (w, k). (known-bits 16 (flagWord s) (old .bits) (required old s w k), accepts-kinds new old s v w h k),
+    λ (w, k). (required-bits old s w k, accepts-kinds new old s v w h k),
     λ (b, k). (_, knowing-accepts b k),
   )
 

@@ -155,9 +155,9 @@ kept-within a b f h = common-within 32 f a b h
 pub kept-same : (a b f : ℕ) → Known 32 a b → Known 32 b a → kept a f ≡ kept b f
 kept-same a b f h k = sym (kept-within b a f h) ∙ sym (kept-swap a b f) ∙ kept-within a b f k
 
-pub kept-both : (a b f : ℕ) → kept (common 32 a b) f ≡ kept b (kept a f)
+pub kept-both : (a b f : ℕ) → kept b (kept a f) ≡ kept (common 32 a b) f
 unfolding kept
-kept-both a b f = common-comm 32 f (common 32 a b) ∙ common-swap 32 a b f ∙ ap (λ (n : ℕ). common 32 n b) (common-comm 32 a f)
+kept-both a b f = ap (λ (n : ℕ). common 32 n b) (common-comm 32 f a) ∙ common-swap 32 a f b ∙ common-comm 32 (common 32 a b) f
 
 pub kept-known : (k a b f : ℕ) → Known k f b → Known k (kept a f) b
 unfolding kept
