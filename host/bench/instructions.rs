@@ -2,8 +2,11 @@
 //! `bench/instructions.sh`:
 //!
 //! ```text
-//! instructions <read or forward> <message> <calls>
+//! instructions <read, forward or cleared> <message> <calls>
 //! ```
+//!
+//! `cleared` forwards the message with a checksum and with a flag bit that the
+//! house edition clears.
 //!
 //! Without arguments it lists the messages with their lengths.
 
@@ -12,6 +15,7 @@ mod common;
 #[allow(dead_code)]
 mod mix;
 
+use common::message::with_flags;
 use common::names::{message_of, Family};
 use relay::{ffi, Edition, MAX_LENGTH, VIEW_NUMBERS};
 use std::env;
@@ -31,7 +35,7 @@ fn main() -> ExitCode {
         _ => None,
     };
     if done.is_none() {
-        eprintln!("instructions <read or forward> <message> <calls>");
+        eprintln!("instructions <read, forward or cleared> <message> <calls>");
         return ExitCode::FAILURE;
     }
     ExitCode::SUCCESS
@@ -56,13 +60,14 @@ fn list() {
 }
 
 fn run(call: &str, name: &str, calls: &str) -> Option<()> {
-    let forward = match call {
-        "read" => false,
-        "forward" => true,
-        _ => return None,
-    };
     let calls: u32 = calls.parse().ok()?;
     let (_, message) = messages().into_iter().find(|item| item.0 == name)?;
+    let (forward, message) = match call {
+        "read" => (false, message),
+        "forward" => (true, message),
+        "cleared" => (true, with_flags(&message, 1 | 1 << 17)),
+        _ => return None,
+    };
     let mut view = [0; VIEW_NUMBERS];
     let mut output = vec![0; MAX_LENGTH];
     for _ in 0..calls {

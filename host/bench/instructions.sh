@@ -20,7 +20,8 @@ one() {
     echo $(((many - few) / 100))
 }
 
-printf '%-14s%7s%10s%10s\n' message bytes read forward
+printf '%-14s%7s%10s%10s%10s\n' message bytes read forward cleared
 "$program" | while read -r name bytes; do
-    printf '%-14s%7s%10s%10s\n' "$name" "$bytes" "$(one read "$name")" "$(one forward "$name")"
+    printf '%-14s%7s%10s%10s%10s\n' "$name" "$bytes" \
+        "$(one read "$name")" "$(one forward "$name")" "$(one cleared "$name")"
 done

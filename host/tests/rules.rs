@@ -404,6 +404,24 @@ fn the_checksum_covers_the_flags_as_they_came() {
     assert_eq!(output, draft.bytes());
 }
 
+#[test]
+fn a_cleared_bit_gives_the_checksum_anew_at_every_length() {
+    // An empty body makes 30 bytes; the last message has 49,152.
+    let growths = (11..2_000).chain([4_000, 20_000, MAX_MESSAGE - 31, MAX_MESSAGE - 30]);
+    for growth in growths {
+        let mut draft = Draft::new(vec![Section::Body(padded(&EMPTY, growth))]);
+        draft.flags = 1 | 1 << 16 | 1 << (17 + growth % 15);
+        let message = draft.bytes();
+        assert_eq!(message.len(), 30 + growth);
+        let mut output = vec![0xAA; ROOM];
+        let view = forward(&HOUSE, &message, &mut output).expect("accepted");
+        draft.flags = 1 | 1 << 16;
+        assert_eq!(view.flags, draft.flags);
+        assert_eq!(output[..view.length], draft.bytes());
+        assert!(output[view.length..].iter().all(|&byte| byte == 0xAA));
+    }
+}
+
 // ------------------------------------------------------------------ orders
 
 #[test]

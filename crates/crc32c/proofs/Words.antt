@@ -44,7 +44,7 @@ eight-at s i h = eight-of (drop i s) (simp length-drop (omega arith)) ∙ simp d
 -- ---- the register over words
 
 -- the bytes as one number: with the register they are shifted at once
-register-word : (c : ℕ) (s : List ℕ) → ((i : ℕ) → getD s i 0 < 256) → registerAfter c s ≡ shiftBits (8 * length s) (bitXor c (littleEndian s))
+pub register-word : (c : ℕ) (s : List ℕ) → ((i : ℕ) → getD s i 0 < 256) → registerAfter c s ≡ shiftBits (8 * length s) (bitXor c (littleEndian s))
 unfolding registerAfter intoByte littleEndian shiftBits
 register-word c [] h = sym (xor-zero-r c)
 register-word c (b ∷ s) h =

@@ -1,4 +1,4 @@
-// Runs the published vectors of CRC-32C, those of RFC 3720, appendix B.4, among them, and writes each checksum.
+// Runs the published vectors of CRC-32C, those of RFC 3720, appendix B.4, among them, and writes each checksum; and one of them refreshed.
 
 // A name, a tab, a checksum in hexadecimal, and the end of the line.
 fn line(name: &[u8], checksum: u32) {
@@ -41,5 +41,13 @@ fn main() {
         b"the same in two parts",
         b"\x01\xC0\x00\x00\x00\x00\x00\x00\x00\x00\x00\x00\x00\x00\x00\x00\x14\x00\x00",
         b"\x00\x00\x00\x04\x00\x00\x00\x00\x14\x00\x00\x00\x18\x28\x00\x00\x00\x00\x00\x00\x00\x02\x00\x00\x00\x00\x00\x00\x00",
+    );
+    line(
+        b"with 15 for 14 at 16, refreshed",
+        crc32c_refresh::refresh(0xD996_3A56, 0x14, 0x15, 28),
+    );
+    vector(
+        b"the same, read anew",
+        b"\x01\xC0\x00\x00\x00\x00\x00\x00\x00\x00\x00\x00\x00\x00\x00\x00\x15\x00\x00\x00\x00\x00\x04\x00\x00\x00\x00\x14\x00\x00\x00\x18\x28\x00\x00\x00\x00\x00\x00\x00\x02\x00\x00\x00\x00\x00\x00\x00",
     );
 }

@@ -1,6 +1,6 @@
 -- What a relay forwards of a message that it accepts: the same but for the flag word and the checksum, and accepted again.
 -- Assumes nothing.
-use Prim.Native.Nat.{ℕ, _+_, _≤_}
+use Prim.Native.Nat.{ℕ, _+_, _^_, _≤_, _<_}
 use mathlib.Core.Bool.{false}
 use mathlib.Core.Path.{_≡_, sym, ap, _∙_}
 use mathlib.Core.List.{List}
@@ -12,7 +12,7 @@ use borrow.Author.Tests.{le-ltb}
 use Rattle.wire.specs.Outcome.{ok, refuse, _>>=_}
 use Rattle.wire.specs.Bytes.{wordAt}
 use Rattle.wire.proofs.Outcome.{pass, go-on}
-use Rattle.opmsg.specs.Flags.{kept}
+use Rattle.opmsg.specs.Flags.{checksummed, kept}
 use Rattle.opmsg.specs.Layout.{messageLength, flagWord, sectionBytes}
 use Rattle.opmsg.specs.Sections.{Parts}
 use Rattle.opmsg.specs.View.{viewOf}
@@ -41,12 +41,19 @@ module _ (e : Edition) (s : List ℕ) (v : View) (h : read e s ≡ ok v) where
   unfolding viewOf
   view-flags = sym (ap (λ (v : View). v .flags) (reads h .view))
 
+  pub view-flags-lt : v .flags < 2 ^ 32
+  view-flags-lt = rw view-flags (kept-lt (e .bits) (flagWord s))
+
+  -- bit 0 is shown as it is
+  pub view-bit0 : checksummed (v .flags) ≡ checksummed (flagWord s)
+  view-bit0 = rw view-flags (kept-bit0 (e .bits) (flagWord s) required)
+
   pub view-length : v .length ≡ messageLength s
   unfolding viewOf
   view-length = sym (ap (λ (v : View). v .length) (reads h .view))
 
   pub form : Headed (take 16 s) (v .flags) (sectionBytes s)
-  form = rw view-flags (headed s (reads h .sound) (kept (e .bits) (flagWord s)) (kept-lt (e .bits) (flagWord s)) (kept-bit0 (e .bits) (flagWord s) required))
+  form = headed s (reads h .sound) (v .flags) view-flags-lt view-bit0
 
   pub forwarded-word : (k : ℕ) → k + 4 ≤ 16 → wordAt k (forwarded s v) ≡ wordAt k s
   unfolding forwarded

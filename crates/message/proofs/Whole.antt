@@ -27,7 +27,7 @@ module _ (e : Edition) (s : List ℕ) (v : View) (h : read e s ≡ ok v) (b : By
   end-least : 20 ≤ sectionsEnd s
   end-least = omega (arith, stated-end s (reads h .sound))
 
-  before-end : take 16 s ++ (le32 (flagWord s) ++ sectionBytes s) ≡ take (sectionsEnd s) s
+  pub before-end : take 16 s ++ (le32 (flagWord s) ++ sectionBytes s) ≡ take (sectionsEnd s) s
   unfolding sectionBytes
   before-end =
       let n = sectionsEnd s - 20 in

@@ -10,19 +10,18 @@ use borrow.Author.Tests.{ltb-false}
 use Rattle.wire.specs.Bytes.{wordAt, le32}
 use Rattle.wire.proofs.Bytes.{word-le32}
 use Rattle.wire.proofs.Outcome.{ok-same, bound, passed}
-use Rattle.opmsg.specs.Layout.{maxLength, messageLength, flagWord}
+use Rattle.opmsg.specs.Layout.{maxLength, messageLength}
 use Rattle.opmsg.specs.Read.{read}
 use Rattle.opmsg.specs.declared.Edition.{Edition}
 use Rattle.opmsg.proofs.Limits.{maxLength-small}
 use Rattle.opmsg.proofs.Accepted.{reads}
-use Rattle.opmsg.proofs.Bits.{kept-lt}
 use Rattle.message.specs.Message.{wholeLength}
 use Rattle.message.specs.Forward.{forward}
 use Rattle.message.specs.Write.{written, write}
 use Rattle.message.specs.Append.{append}
 use Rattle.message.specs.WrittenMessages.{WritesMessage, WritesMessages}
 use Rattle.message.proofs.Message.{message-word, message-whole}
-use Rattle.message.proofs.Forwarded.{view-flags, view-length, forwarded-length, own-forward}
+use Rattle.message.proofs.Forwarded.{view-flags-lt, view-length, forwarded-length, own-forward}
 use Rattle.message.proofs.Appended.{appended-seen}
 
 forwards : (e : Edition) (s : List ℕ) (room : ℕ) → WritesMessage e (forward e s room)
@@ -60,10 +59,9 @@ appends e s identifier documents room w h =
     let c4 = passed _ _ _ _ (c3 .1) in
     let c5 = passed _ _ _ _ (c4 .1) in
     let c6 = passed _ _ _ _ (c5 .1) in
-    let small : v .flags < 2 ^ 32 = rw (view-flags e s v k) (kept-lt (e .bits) (flagWord s)) in
     let limit = ltb-false maxLength _ (c5 .0) in
     bound (read e _) _ (c6 .1) λ u r same.
-    rw (← ok-same same) (r, appended-seen s (reads k .sound) (v .flags) _ small limit .whole ∙ sym (view-length e _ u r))
+    rw (← ok-same same) (r, appended-seen s (reads k .sound) (v .flags) _ (view-flags-lt e s v k) limit .whole ∙ sym (view-length e _ u r))
 
 pub writes-messages : WritesMessages
 writes-messages = record { forwards = forwards; writes = writes; appends = appends }

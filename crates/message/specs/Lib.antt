@@ -5,6 +5,7 @@ pub mod Append
 pub mod Editions
 pub mod Demand3
 pub mod Chain
+pub mod Refreshed
 pub mod RoundTrip
 pub mod Refusals
 pub mod WrittenMessages

@@ -1,6 +1,6 @@
 -- Appending to an accepted message, by what its view shows: which refusal it gives, or the view with one sequence more.
 -- Assumes nothing.
-use Prim.Native.Nat.{ℕ, _+_, _-_, _^_, _<_, _≤_}
+use Prim.Native.Nat.{ℕ, _+_, _-_, _<_, _≤_}
 use mathlib.Core.Bool.{Bool, true, false}
 use mathlib.Core.Path.{_≡_, refl, sym, ap, _∙_}
 use mathlib.Core.List.{List, [], _∷_, _++_}
@@ -23,13 +23,13 @@ use Rattle.opmsg.specs.declared.Edition.{Edition}
 use Rattle.opmsg.specs.declared.View.{View}
 use Rattle.opmsg.proofs.Limits.{maxLength-small}
 use Rattle.opmsg.proofs.Accepted.{Reads, reads, read-content}
-use Rattle.opmsg.proofs.Bits.{known-self, known-allKnown, kept-lt, kept-within, kept-known, kept-bit0}
+use Rattle.opmsg.proofs.Bits.{known-self, known-allKnown, kept-within, kept-known}
 use Rattle.opmsg.proofs.Section.{section-steady}
 use Rattle.opmsg.proofs.Shown.{padded-set}
 use Rattle.message.specs.Message.{wholeLength}
 use Rattle.message.specs.Append.{sequenceBytes, appended, append}
 use Rattle.message.proofs.Message.{Seen, same-size, stated-length, stated-end}
-use Rattle.message.proofs.Forwarded.{required, view-flags, view-length}
+use Rattle.message.proofs.Forwarded.{required, view-flags, view-flags-lt, view-bit0, view-length}
 use Rattle.message.proofs.Appended.{appended-word, appended-stated, appended-seen}
 use Rattle.opmsg_sections.proofs.Gather.{body-stays, sequences-more}
 use Rattle.message_append_store.proofs.Size.{sizeOf, bytes-length}
@@ -78,7 +78,7 @@ module _ (e : Edition) (s : List ℕ) (v : View) (h : read e s ≡ ok v) where
   r = reads h
 
   same-checksum : checksumSize (v .flags) ≡ checksumSize (flagWord s)
-  same-checksum = rw (view-flags e s v h) (same-size (kept (e .bits) (flagWord s)) (flagWord s) (kept-bit0 (e .bits) (flagWord s) (required e s v h)))
+  same-checksum = same-size (v .flags) (flagWord s) (view-bit0 e s v h)
 
   -- where its sections end
   pub end-is : v .length - checksumSize (v .flags) ≡ sectionsEnd s
@@ -104,9 +104,6 @@ module _ (e : Edition) (s : List ℕ) (v : View) (h : read e s ≡ ok v) where
   ids : (signed (wordAt 4 s) ≡ v .«request_id») × (signed (wordAt 8 s) ≡ v .«response_to»)
   unfolding viewOf
   ids = (ap (λ (v : View). v .«request_id») (r .view), ap (λ (v : View). v .«response_to») (r .view))
-
-  flags-small : v .flags < 2 ^ 32
-  flags-small = rw (view-flags e s v h) (kept-lt (e .bits) (flagWord s))
 
   flags-again : kept (e .bits) (v .flags) ≡ v .flags
   flags-again = rw (view-flags e s v h) (kept-within (e .bits) (e .bits) (flagWord s) (known-self 32 (e .bits)))
@@ -142,7 +139,7 @@ module _ (e : Edition) (s : List ℕ) (v : View) (h : read e s ≡ ok v) where
       size-small = omega (arith, a .limit, length-append (sectionBytes s) (sequenceBytes name documents), bytes-length name documents)
 
       seen : Seen new (v .flags) more
-      seen = appended-seen s (r .sound) (v .flags) more flags-small (a .limit)
+      seen = appended-seen s (r .sound) (v .flags) more (view-flags-lt e s v h) (a .limit)
 
       -- it is read as the documents are, behind the sections that were there
       abbrev at : ℕ
@@ -167,10 +164,10 @@ module _ (e : Edition) (s : List ℕ) (v : View) (h : read e s ≡ ok v) where
           let stays = body-stays qs at q in
           let room : length (sequencesOf qs) < maxSequences = omega (arith, a .few, shows .number-is) in
           rw (
-            appended-stated s (r .sound) (v .flags) more flags-small (a .limit),
+            appended-stated s (r .sound) (v .flags) more (view-flags-lt e s v h) (a .limit),
             ← whole-is,
-            appended-word s (r .sound) (v .flags) more flags-small (a .limit) 0 (omega arith),
-            appended-word s (r .sound) (v .flags) more flags-small (a .limit) 4 (omega arith),
+            appended-word s (r .sound) (v .flags) more (view-flags-lt e s v h) (a .limit) 0 (omega arith),
+            appended-word s (r .sound) (v .flags) more (view-flags-lt e s v h) (a .limit) 4 (omega arith),
             seen .flags,
             flags-again,
             ids .0,

@@ -80,6 +80,19 @@ pub fn with_body(body: Vec<u8>) -> Vec<u8> {
     Draft::new(vec![Section::Body(body)]).bytes()
 }
 
+/// The message with this flag word, and with a right checksum exactly where
+/// that has bit 0.
+pub fn with_flags(message: &[u8], flags: u32) -> Vec<u8> {
+    let had = if get_u32(message, 16) & 1 == 1 { 4 } else { 0 };
+    let has = if flags & 1 == 1 { 4 } else { 0 };
+    let mut bytes = message[..message.len() - had].to_vec();
+    bytes.extend(vec![0; has]);
+    put_u32(&mut bytes, 16, flags);
+    set_length(&mut bytes);
+    sign(&mut bytes);
+    bytes
+}
+
 pub fn put_u32(bytes: &mut [u8], at: usize, number: u32) {
     bytes[at..at + 4].copy_from_slice(&number.to_le_bytes());
 }

@@ -4,7 +4,7 @@ use mathlib.Core.Path.{sym, _∙_}
 use native.Mathlib.Omega.{arith}
 use lib.Seq.{length-take-le}
 use borrow.Author.Needs.{needs}
-use Rattle.message_forward_store.proofs.Forwards.{shown-bounds, forward-stores}
+use Rattle.message_forward_store.proofs.Forwards.{Laid, shown-bounds, forward-stands, forward-stores}
 use Rattle.message_forward_store.proofs.reflagged.Statement.{statement}
 use Rattle.message_forward_store.proofs.reflagged.Tie as tie
 
@@ -23,15 +23,32 @@ part-put-end c =
     let k = c .before .before .before .before .before .before .before .before .before .before in
     omega (arith, shown-bounds _ _ _ (k .before .before .before .pre .0), k .checksum-size .ensures)
 
+-- what stands in the output after the three parts are stored
+module _ (third : tie.After-put2) where
+  abbrev second : tie.After-put-word
+  second = third .before .before .before .before .before
+
+  abbrev first : tie.After-put
+  first = second .before .before .before .before
+
+  abbrev k : tie.After-checksum-size
+  k = first .before .before .before
+
+  abbrev a : tie.Start
+  a = k .before .before .before
+
+  stored : Laid (a .args .s .now) (a .args .size) (a .args .flags) (a .args .out .now) (k .checksum-size .result) (third .put2 .last .0)
+  stored = record { headed = first .put .last .0; flagged = second .put-word .last .0; k-is = k .checksum-size .ensures; first = first .put .ensures; second = second .put-word .ensures; third = third .put2 .ensures }
+
+reseal-requires : tie.Need-reseal-requires
+reseal-requires c κs =
+    let third = c .before .before .before in
+    forward-stands _ _ _ (a third .pre .0) _ (a third .pre .1) _ _ (stored third)
+
 returns : tie.Need-returns
 returns c =
     let third = c .before .before .before .before .before .before in
-    let second = third .before .before .before .before .before in
-    let first = second .before .before .before .before in
-    let k = first .before .before .before in
-    let a = k .before .before .before in
-    c .before .before .seal .ensures
-    ∙ forward-stores _ _ _ (a .pre .0) (a .args .out .now) (a .pre .1) (k .checksum-size .result) (k .checksum-size .ensures) _ _ _ (first .put .ensures) (second .put-word .ensures) (third .put2 .ensures)
+    c .before .before .reseal .ensures ∙ forward-stores _ _ _ (a third .pre .0) _ (a third .pre .1) _ _ (stored third)
 
 pub reflagged-spec : {M : Type 1} → statement M
 reflagged-spec =
@@ -47,6 +64,6 @@ reflagged-spec =
     sub-put
     part-put-end
     (λ c κs. search needs)
-    (λ c κs. search needs)
+    reseal-requires
     (λ c. search needs)
     returns)

@@ -1,0 +1,4 @@
+pub mod Operators
+pub mod Turns
+pub mod Refreshes
+pub mod Examples
