@@ -78,13 +78,9 @@ images-composed m n (suc bits) k l =
     ap₂ _∷_ (operator-applies m (advance n (2 ^ k)) (advance-lt n (2 ^ k) (pow-lt {j = 32} (omega arith))) ∙ sym (advance-add n m (2 ^ k)) ∙ ap (λ (b : ℕ). advance b (2 ^ k)) (omega arith))
     (images-composed m n bits (suc k) (omega arith))
 
-operator-is : (n : ℕ) → operator n ≡ images (advance n) 32 0
-unfolding operator
-operator-is n = refl
-
 operator-composes : (m n : ℕ) → composed (operator m) (operator n) ≡ operator (m + n)
-unfolding composed
-operator-composes m n = ap (map (apply (operator m))) (operator-is n) ∙ images-composed m n 32 0 (omega arith) ∙ sym (operator-is (m + n))
+unfolding composed operator
+operator-composes m n = images-composed m n 32 0 (omega arith)
 
 -- ---- an operator from its last number
 

@@ -26,14 +26,10 @@ complement x h =
     let both : bitAnd x 0xFFFF_FFFF ≡ x = and-mask x 32 ∙ mod-eq-of-lt h in
     omega (arith, xor-add-and x 0xFFFF_FFFF, both)
 
--- eight steps are the advance over a byte
-eight : (x : ℕ) → shiftBits 8 x ≡ advance 1 x
-unfolding advance
-eight x = refl
-
+-- a byte goes into the register, which is then advanced over it
 into : (c b : ℕ) → intoByte c b ≡ advance 1 (bitXor c b)
-unfolding intoByte
-into c b = eight (bitXor c b)
+unfolding intoByte advance
+into c b = refl
 
 -- zeros only advance it
 register-zeros : (k n c : ℕ) → k ≤ n → registerAfter c (take k (replicate n 0)) ≡ advance k c
@@ -65,28 +61,21 @@ register-change x y (b ∷ s) =
     ∙ ap (bitXor (registerAfter (intoByte x b) s)) (sym (advance-add 1 (length s) y) ∙ ap (λ (n : ℕ). advance n y) (omega arith))
 
 -- a word goes into the register as a whole
-four-digits : (a b c d : ℕ) → littleEndian (a ∷ b ∷ c ∷ d ∷ []) ≡ word (a ∷ b ∷ c ∷ d ∷ [])
-unfolding littleEndian word
-four-digits a b c d = omega arith
+word-bytes : (w : ℕ) → Bytes (le32 w)
+unfolding le32
+word-bytes w zero = mod-lt w (lit< tt)
+word-bytes w (suc zero) = mod-lt (w / 0x100) (lit< tt)
+word-bytes w (suc (suc zero)) = mod-lt (w / 0x1_0000) (lit< tt)
+word-bytes w (suc (suc (suc zero))) = mod-lt (w / 0x100_0000) (lit< tt)
+word-bytes w (suc (suc (suc (suc i)))) = lit< tt
 
-four-bytes : (a b c d : ℕ) → a < 256 → b < 256 → c < 256 → d < 256 → Bytes (a ∷ b ∷ c ∷ d ∷ [])
-four-bytes a b c d p q r t zero = p
-four-bytes a b c d p q r t (suc zero) = q
-four-bytes a b c d p q r t (suc (suc zero)) = r
-four-bytes a b c d p q r t (suc (suc (suc zero))) = t
-four-bytes a b c d p q r t (suc (suc (suc (suc i)))) = lit< tt
-
-register-four : (x a b c d : ℕ) → a < 256 → b < 256 → c < 256 → d < 256
-    → registerAfter x (a ∷ b ∷ c ∷ d ∷ []) ≡ advance 4 (bitXor x (word (a ∷ b ∷ c ∷ d ∷ [])))
-unfolding advance
-register-four x a b c d p q r t =
-    register-word x (a ∷ b ∷ c ∷ d ∷ []) (four-bytes a b c d p q r t) ∙ ap (λ (w : ℕ). shiftBits 32 (bitXor x w)) (four-digits a b c d)
+digits : (w : ℕ) → w < 2 ^ 32 → littleEndian (le32 w) ≡ w
+unfolding littleEndian word le32
+digits w h = omega (arith, word-le32 w [] h)
 
 register-le32 : (x w : ℕ) → w < 2 ^ 32 → registerAfter x (le32 w) ≡ advance 4 (bitXor x w)
-unfolding le32
-register-le32 x w h =
-    register-four x (w % 256) (w / 0x100 % 256) (w / 0x1_0000 % 256) (w / 0x100_0000 % 256) (mod-lt w (lit< tt)) (mod-lt (w / 0x100) (lit< tt))
-    (mod-lt (w / 0x1_0000) (lit< tt)) (mod-lt (w / 0x100_0000) (lit< tt)) ∙ ap (λ (n : ℕ). advance 4 (bitXor x n)) (word-le32 w [] h)
+unfolding advance le32
+register-le32 x w h = register-word x (le32 w) (word-bytes w) ∙ ap (λ (n : ℕ). shiftBits 32 (bitXor x n)) (digits w h)
 
 -- the register over a message, by its word
 over : (before behind : List ℕ) (w : ℕ) → w < 2 ^ 32

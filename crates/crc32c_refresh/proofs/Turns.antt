@@ -59,13 +59,13 @@ unfolding squaring
 squaring-none zero m change = refl
 squaring-none (suc turns) m change = squaring-none turns (squared m) change
 
-one-more : (turns : ℕ) (m : List ℕ) (left change goal d : ℕ) (n : List ℕ) → left < 2 ^ turns → squaring turns m left change ≡ goal → 1 < left
+one-more : (turns : ℕ) (m : List ℕ) (left change goal d : ℕ) (n : List ℕ) → left < 2 ^ turns → squaring turns m left change ≡ goal → 0 < left
     → d ≡ turned m (eqb (left % 2) 1) change → n ≡ squared m → Squaring n (left / 2) d goal
 unfolding squaring
 one-more zero m left change goal d n enough rest h d-is n-is = absurd (omega arith)
 one-more (suc turns) m left change goal d n enough rest h d-is n-is = record { turns = turns; enough = omega (arith, pow-suc 2 turns); rest = rw (d-is, n-is) rest }
 
-pub squaring-turn : (m : List ℕ) (left change goal d : ℕ) (n : List ℕ) → Squaring m left change goal → 1 < left → d ≡ turned m (eqb (left % 2) 1) change
+pub squaring-turn : (m : List ℕ) (left change goal d : ℕ) (n : List ℕ) → Squaring m left change goal → 0 < left → d ≡ turned m (eqb (left % 2) 1) change
     → n ≡ squared m → Squaring n (left / 2) d goal
 squaring-turn m left change goal d n before = one-more (before .turns) m left change goal d n (before .enough) (before .rest)
 

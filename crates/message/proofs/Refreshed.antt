@@ -1,14 +1,14 @@
 -- The refreshed checksum is that of the forwarded message.
 -- Assumes nothing.
-use Prim.Native.Nat.{ℕ, _-_, _^_, _<_}
+use Prim.Native.Nat.{ℕ, _-_}
 use mathlib.Core.Bool.{true}
 use mathlib.Core.Path.{_≡_, sym, ap, ap₂, _∙_}
 use mathlib.Core.List.{List, _++_}
 use native.Mathlib.Omega.{arith}
-use lib.ListN.{length, take, drop, length-take, length-drop}
+use lib.ListN.{length, take, drop}
 use Rattle.wire.specs.Outcome.{ok}
 use Rattle.wire.specs.Bytes.{Bytes, wordAt, le32}
-use Rattle.wire.proofs.Bytes.{bytes-take, bytes-drop, word-lt}
+use Rattle.wire.proofs.Bytes.{bytes-take, bytes-drop, wordAt-lt}
 use Rattle.crc32c.specs.Crc.{crcOf}
 use Rattle.crc32c_refresh.specs.Refresh.{refreshed}
 use Rattle.crc32c_refresh.proofs.Refreshes.{refreshes}
@@ -21,7 +21,7 @@ use Rattle.message.specs.Forward.{forwarded}
 use Rattle.message.specs.Refreshed.{newChecksum, ForwardRefreshes}
 use Rattle.opmsg.specs.declared.Edition.{Edition}
 use Rattle.opmsg.specs.declared.View.{View}
-use Rattle.message.proofs.Message.{size-with, checksum-with, right-checksum}
+use Rattle.message.proofs.Message.{size-with, checksum-with, right-checksum, stated-end}
 use Rattle.message.proofs.Forwarded.{view-flags-lt, view-bit0}
 use Rattle.message.proofs.Whole.{before-end}
 
@@ -38,17 +38,12 @@ module _ (e : Edition) (s : List ℕ) (v : View) (b : Bytes s) (h : read e s ≡
   bytes-of = bytes-take (sectionsEnd s - 20) (drop 20 s) (bytes-drop 20 s b)
 
   following : length (sectionBytes s) ≡ messageLength s - 24
-  unfolding sectionBytes
-  following = simp (length-take, length-drop) (omega (arith, ends, reads h .sound .whole))
-
-  flags-lt : flagWord s < 2 ^ 32
-  unfolding wordAt
-  flags-lt = word-lt (drop 16 s) (bytes-drop 16 s b)
+  following = omega (arith, ends, stated-end s (reads h .sound))
 
   new : crcOf (take 16 s ++ (le32 (v .flags) ++ sectionBytes s)) ≡ newChecksum s v
   unfolding newChecksum
   new =
-      sym (refreshes (take 16 s) (sectionBytes s) (flagWord s) (v .flags) (bytes-take 16 s b) bytes-of flags-lt (view-flags-lt e s v h))
+      sym (refreshes (take 16 s) (sectionBytes s) (flagWord s) (v .flags) (bytes-take 16 s b) bytes-of (wordAt-lt 16 s b) (view-flags-lt e s v h))
       ∙ ap₂ (λ (c n : ℕ). refreshed c (flagWord s) (v .flags) n) (sym old) following
 
   pub new-checksum : checksum (v .flags) (take 16 s ++ (le32 (v .flags) ++ sectionBytes s)) ≡ le32 (newChecksum s v)

@@ -1,6 +1,6 @@
 -- The message with a front of its sections: it is what writing gives for the body alone, and what appending gives with one section more.
 -- Assumes nothing.
-use Prim.Native.Nat.{ℕ, _+_, _^_, _<_, _≤_}
+use Prim.Native.Nat.{ℕ, _+_, _<_, _≤_}
 use mathlib.Core.Bool.{true}
 use mathlib.Core.Path.{_≡_, sym, ap, _∙_}
 use mathlib.Core.List.{List, _∷_, _++_}
@@ -11,7 +11,7 @@ use borrow.Author.Tests.{le-ltb, lt-leb, eq-eqb, ne-eqb}
 use Rattle.wire.specs.Outcome.{ok, refuse, _>>=_}
 use Rattle.wire.specs.Walk.{walk}
 use Rattle.wire.specs.Bytes.{Bytes, word, wordAt, le32, signed, untilZero}
-use Rattle.wire.proofs.Bytes.{bytes-drop, word-lt, bits32-signed, wordAt-front}
+use Rattle.wire.proofs.Bytes.{wordAt-lt, bits32-signed, wordAt-front}
 use Rattle.wire.proofs.Walk.{walk-turns}
 use Rattle.opmsg.specs.Flags.{kept, knows}
 use Rattle.opmsg.specs.Layout.{maxLength, messageLength, flagWord, sectionBytes}
@@ -37,12 +37,8 @@ abbrev pub made : List ℕ → List ℕ → List ℕ
 made s ys = appended s (flagWord s) ys
 
 module _ (e : Edition) (s : List ℕ) (v : View) (h : read e s ≡ ok v) (b : Bytes s) (known : Known 32 (flagWord s) (e .bits)) where
-  flags-lt : flagWord s < 2 ^ 32
-  unfolding wordAt
-  flags-lt = word-lt (drop 16 s) (bytes-drop 16 s b)
-
   pub flags-kept : kept (e .bits) (flagWord s) ≡ flagWord s
-  flags-kept = kept-all (e .bits) (flagWord s) known flags-lt
+  flags-kept = kept-all (e .bits) (flagWord s) known (wordAt-lt 16 s b)
 
   -- a front of the sections
   module _ (ys : List ℕ) (l : length ys ≤ length (sectionBytes s)) where
@@ -54,11 +50,11 @@ module _ (e : Edition) (s : List ℕ) (v : View) (h : read e s ≡ ok v) (b : By
     made-limit = omega (arith, made-fits, reads h .sound .limit)
 
     made-seen : Seen (made s ys) (flagWord s) ys
-    made-seen = appended-seen s (reads h .sound) (flagWord s) ys flags-lt made-limit
+    made-seen = appended-seen s (reads h .sound) (flagWord s) ys (wordAt-lt 16 s b) made-limit
 
     -- appending to it gives it with other sections
     pub appended-made : (zs : List ℕ) → appended (made s ys) (flagWord s) zs ≡ made s zs
-    appended-made zs = unfold appended in rw (appended-rest s (reads h .sound) (flagWord s) ys flags-lt made-limit)
+    appended-made zs = unfold appended in rw (appended-rest s (reads h .sound) (flagWord s) ys (wordAt-lt 16 s b) made-limit)
 
     -- it is read as its sections are
     pub made-read : (p : Parts) → walk (sectionAt e) (length ys) 20 ys nothing ≡ ok p → 0 < bodyStart (p .sections) → Differ ys (p .sections)
@@ -115,13 +111,9 @@ module _ (e : Edition) (s : List ℕ) (v : View) (h : read e s ≡ ok v) (b : By
       rw (← reads h .sound .opcode, word-bytes-at e s v h b 4 (omega arith), word-bytes-at e s v h b 8 (omega arith), word-bytes-at e s v h b 12 (omega arith))
       (sym (take-add 4 8 (drop 4 s) ∙ ap (λ (l : List ℕ). take 4 (drop 4 s) ++ l) (ap (take 8) (drop-drop 4 4 s) ∙ take-add 4 4 (drop 8 s) ∙ ap (λ (l : List ℕ). take 4 (drop 8 s) ++ take 4 l) (drop-drop 4 8 s))))
 
-  id-lt : (k : ℕ) → wordAt k s < 2 ^ 32
-  unfolding wordAt
-  id-lt k = word-lt (drop k s) (bytes-drop k s b)
-
   written-made : (body : List ℕ) → written (signed (wordAt 4 s)) (signed (wordAt 8 s)) (flagWord s) body ≡ made s (0 ∷ body)
   unfolding written appended
-  written-made body = rw (bits32-signed (wordAt 4 s) (id-lt 4), bits32-signed (wordAt 8 s) (id-lt 8), ids-bytes)
+  written-made body = rw (bits32-signed (wordAt 4 s) (wordAt-lt 4 s b), bits32-signed (wordAt 8 s) (wordAt-lt 8 s b), ids-bytes)
 
   module _ (body out : List ℕ) (w : View) (fits : length body < length (sectionBytes s)) (stated : word body ≡ length body) (least : 5 ≤ length body) (room : Room s out)
       (after : read e (made s (0 ∷ body)) ≡ ok w) where

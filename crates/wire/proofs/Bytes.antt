@@ -55,9 +55,13 @@ word-le32 n r h =
     (four-digits n (n / 0x100) (n / 0x1_0000) (n / 0x100_0000) (n % 0x100) (n / 0x100 % 0x100) (n / 0x1_0000 % 0x100)
     (mod-add-div n 0x100) (rw a (mod-add-div (n / 0x100) 0x100)) (rw b (mod-add-div (n / 0x1_0000) 0x100)))
 
-pub word-lt : (s : List ℕ) → Bytes s → word s < 2 ^ 32
+word-lt : (s : List ℕ) → Bytes s → word s < 2 ^ 32
 unfolding word
 word-lt s b = omega (arith, b 0, b 1, b 2, b 3)
+
+pub wordAt-lt : (k : ℕ) (s : List ℕ) → Bytes s → wordAt k s < 2 ^ 32
+unfolding wordAt
+wordAt-lt k s b = word-lt (drop k s) (bytes-drop k s b)
 
 low-digit : (a m : ℕ) → a < 256 → (a + 256 * m) % 256 ≡ a
 low-digit a m h = omega arith

@@ -20,13 +20,13 @@ loop-holds c = record { turns = 64; enough = c .fits .n .fits; rest = refl }
 loop-again : tie.Need-loop-again Inv-loop μ-loop
 loop-again c =
     let t = c .before in
-    let l = t .before in
-    squaring-turn _ _ _ _ _ _ (l .before .loop .inv) (l .loop-test .taken) (t .turned .ensures) (c .square .ensures)
+    let l = t .before .before .loop in
+    squaring-turn _ (l .left) _ _ _ _ (l .inv) (omega arith) (t .turned .ensures) (c .square .ensures)
 
 returns : tie.Need-returns Inv-loop μ-loop
 returns c =
-    let l = c .before in
-    squaring-end _ _ _ _ _ (l .before .loop .inv) (l .loop-test .left) (c .turned2 .ensures)
+    let l = c .before .before .loop in
+    squaring-end _ (l .left) _ _ _ (l .inv) (omega arith) (c .turned2 .ensures)
 
 pub squaring-spec : {M : Type 1} → statement M
 squaring-spec =
