@@ -44,8 +44,13 @@
  * BSON 1.1 is checked for structure: types, lengths and zero bytes, at all
  * levels. A section's document stands at level 1; a document, array or scope
  * inside an element stands one level deeper than that element's document.
- * Not checked: UTF-8, the keys of arrays, what decimals hold, subtypes of
- * binary data, options of regular expressions.
+ * Texts are UTF-8 as RFC 3629 defines it: identifiers, the names of elements at
+ * all levels, strings (types 02, 0D and 0E, and those in 0C and 0F) and both
+ * parts of a regular expression (0B). A zero byte inside a string is a
+ * character like others. Binary data of subtype 02 start with a length of their
+ * own, 4 bytes, signed, which is the outer length less 4.
+ * Not checked: the keys of arrays, what decimals hold, other subtypes of binary
+ * data, which options a regular expression has.
  *
  * Editions. What a relay knows of the protocol is its edition. Each call takes
  * one as two arguments: `bits`, the set of flag bits that are known, and
@@ -178,7 +183,9 @@ typedef char relay_view_is_88_numbers
  * relay_words(). Reading makes its checks in the order 1 to 9, with the second
  * case of 7 after 8; then, from left to right through the sections, 10, 11, 14,
  * 12, 13, 20, 15, 16, 21, 17, 18, 19 of each thing as it is reached; then 22,
- * 23, 24.
+ * 23, 24. A text's 27 comes directly after the checks of its own length and
+ * zero byte: an identifier's after 13, a name's after 18, and in a value a
+ * text's after its own 19 and before what follows it there.
  */
 enum relay_refusal {
     RELAY_ACCEPTED = 0,
@@ -206,7 +213,9 @@ enum relay_refusal {
     RELAY_NO_BODY = 22,              /* the end of the sections */
     RELAY_NAME_TWICE = 23,           /* the later name's first byte */
     RELAY_IDENTIFIER_CLASH = 24,     /* the identifier's first byte */
-    RELAY_OUTPUT_SHORT = 25          /* 0 */
+    RELAY_OUTPUT_SHORT = 25,         /* 0 */
+    RELAY_TEXT_NOT_UTF8 = 27         /* the byte after the text's longest
+                                        beginning that is UTF-8 */
 };
 
 /* The refusal's number in a result; RELAY_ACCEPTED if there is none. */
@@ -225,7 +234,9 @@ static inline uint32_t relay_place(uint64_t result)
  * When a number is given, in English. The enclosing end of a document is the
  * end of its sequence, for a body the end of the sections, and for a document
  * inside another the last byte of that other one; for a scope it is the end of
- * its value. Types have the rules of BSON 1.1.
+ * its value. Types have the rules of BSON 1.1; a wrong length inside binary data
+ * of subtype 02 breaks that type's rule. A character that is cut off is no part
+ * of a beginning that is UTF-8, so 27 is at its first byte.
  */
 static inline const char *relay_words(enum relay_refusal number)
 {
@@ -284,6 +295,8 @@ static inline const char *relay_words(enum relay_refusal number)
         return "sequence's identifier is a top-level name of the body or an earlier identifier";
     case RELAY_OUTPUT_SHORT:
         return "output is too short for the message, or view for its 88 numbers";
+    case RELAY_TEXT_NOT_UTF8:
+        return "name, identifier, string or part of a regular expression is not UTF-8";
     }
     return "no such refusal";
 }
@@ -296,8 +309,8 @@ static inline const char *relay_words(enum relay_refusal number)
  *   message            message_len bytes that start with a message
  *   view               view_len numbers, at least 88; see RELAY_VIEW
  *
- * Refusals: 1 to 24 by the message; then 25 at 0 if the view is shorter than
- * 88 numbers.
+ * Refusals: 1 to 24 and 27 by the message; then 25 at 0 if the view is shorter
+ * than 88 numbers.
  */
 uint64_t relay_read(uint32_t bits, uint8_t sequences,
                     const uint8_t *message, size_t message_len,
@@ -352,8 +365,9 @@ uint64_t relay_write(uint32_t bits, uint8_t sequences,
  * 10 at E if kind 1 is not known; 14 at E if it has sixteen sequences; 13 at
  * E + 5 if the identifier is empty or holds a zero; 2 at 0 if the new length is
  * over 49,152; 25 at 0 if the output is shorter than the new length; those of
- * relay_read on the new message; 25 at 0 if the view is shorter than 88
- * numbers.
+ * relay_read on the new message, so that an identifier that is not UTF-8 is 27
+ * from E + 5 on, before the documents are looked at; 25 at 0 if the view is
+ * shorter than 88 numbers.
  */
 uint64_t relay_append(uint32_t bits, uint8_t sequences,
                       const uint8_t *message, size_t message_len,

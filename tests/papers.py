@@ -154,8 +154,9 @@ def every_refusal():
         for part in row.split(", "):
             first, _, last = part.partition(" to ")
             numbers.update(range(int(first), int(last or first) + 1))
-    if numbers != set(range(1, 26)):
-        faults.append(f"docs/PROMISES.md: no row for the refusals {sorted(set(range(1, 26)) ^ numbers)}")
+    refusals = {*range(1, 26), 27}
+    if numbers != refusals:
+        faults.append(f"docs/PROMISES.md: no row for the refusals {sorted(refusals ^ numbers)}")
 
 
 def sample():

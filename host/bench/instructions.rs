@@ -45,6 +45,7 @@ fn main() -> ExitCode {
 fn messages() -> Vec<(String, Vec<u8>)> {
     let mix = mix::mix()
         .into_iter()
+        .chain(mix::texts())
         .map(|item| (item.name.replace(' ', "-"), item.message));
     let named = [16, 64, 256].map(|count| {
         let names = Family::Usual.names(count);

@@ -34,7 +34,8 @@ const PLAIN_HOUSE: plain::Edition = plain::Edition {
 };
 
 fn main() {
-    let items = mix::mix();
+    let mut items = mix::mix();
+    items.extend(mix::texts());
     println!("Nanoseconds for each call, medians over {SAMPLES} samples.");
     println!("Outputs and views are not cleared between calls.");
     println!();

@@ -25,10 +25,85 @@ pub fn mix() -> Vec<Item> {
     vec![
         ping(),
         command(),
-        insert("insert", 1, 32, 0),
-        insert("large insert", 16, 24, 1),
+        insert("insert", &ENGLISH, 1, 32, 0),
+        insert("large insert", &ENGLISH, 16, 24, 1),
     ]
 }
+
+/// Messages that show what texts cost: the insert with names and strings of
+/// two and of three bytes a character, and long texts.
+pub fn texts() -> Vec<Item> {
+    vec![
+        insert("Greek insert", &GREEK, 1, 32, 0),
+        insert("Chinese insert", &CHINESE, 1, 32, 0),
+        long_text("long ASCII", ENGLISH.remark),
+        long_text("long German", GERMAN_REMARK),
+        long_text("long Greek", GREEK.remark),
+        long_text("long Chinese", CHINESE.remark),
+    ]
+}
+
+/// The words of an insert and of its records in one language.
+struct Words {
+    collection: &'static str,
+    database: &'static str,
+    documents: &'static str,
+    meter: &'static str,
+    meter_name: &'static str,
+    mass: &'static str,
+    seconds: &'static str,
+    flow: &'static str,
+    uncertainty: &'static str,
+    signed: &'static str,
+    /// A sentence for long texts.
+    remark: &'static str,
+}
+
+const ENGLISH: Words = Words {
+    collection: "runs",
+    database: "certificates",
+    documents: "documents",
+    meter: "meter",
+    meter_name: "FM-2041-DN50",
+    mass: "mass",
+    seconds: "seconds",
+    flow: "flow",
+    uncertainty: "uncertainty",
+    signed: "signed",
+    remark: "The meter ran for an hour at the middle flow, and its error stayed small. ",
+};
+
+const GREEK: Words = Words {
+    collection: "μετρήσεις",
+    database: "πιστοποιητικά",
+    documents: "έγγραφα",
+    meter: "μετρητής",
+    meter_name: "ΡΟΗ-2041-ΔΝ50",
+    mass: "μάζα",
+    seconds: "δευτερόλεπτα",
+    flow: "ροή",
+    uncertainty: "αβεβαιότητα",
+    signed: "υπογραφή",
+    remark: "Ο μετρητής λειτούργησε μία ώρα με μέση ροή και το σφάλμα έμεινε μικρό. ",
+};
+
+const CHINESE: Words = Words {
+    collection: "测量",
+    database: "证书",
+    documents: "文档",
+    meter: "流量计",
+    meter_name: "流量计-2041-口径50",
+    mass: "质量",
+    seconds: "秒数",
+    flow: "流量",
+    uncertainty: "不确定度",
+    signed: "已签名",
+    remark: "流量计以中等流量运行了一小时，误差一直很小。",
+};
+
+/// Mostly one byte a character, with others strewn in.
+const GERMAN_REMARK: &str =
+    "Der Zähler lief eine Stunde bei mittlerem Durchfluß, die Abweichung blieb über die Länge klein. ";
 
 fn ping() -> Item {
     let body = PING[21..].to_vec();
@@ -88,66 +163,84 @@ fn without_sequences(name: &'static str, body: Vec<u8>) -> Item {
         all_documents: body.clone(),
         body,
         identifier: b"documents".to_vec(),
-        documents: record(1),
+        documents: record(&ENGLISH, 1),
     }
 }
 
-/// An insert with so many sequences of so many records.
-fn insert(name: &'static str, sequences: usize, records: usize, flags: u32) -> Item {
+/// A command that carries a text of about 16,000 bytes.
+fn long_text(name: &'static str, sentence: &str) -> Item {
+    let text = sentence.repeat(16_000 / sentence.len());
     let body = document(
         &[
-            element(0x02, b"insert", &string(b"runs")),
-            element(0x08, b"ordered", &[1]),
+            element(0x02, b"remark", &string(text.as_bytes())),
             lsid(),
             element(0x02, b"$db", &string(b"certificates")),
         ]
         .concat(),
     );
-    let run: Vec<u8> = (0..records).flat_map(record).collect();
+    without_sequences(name, body)
+}
+
+/// An insert with so many sequences of so many records.
+fn insert(name: &'static str, words: &Words, sequences: usize, records: usize, flags: u32) -> Item {
+    let body = document(
+        &[
+            element(0x02, b"insert", &string(words.collection.as_bytes())),
+            element(0x08, b"ordered", &[1]),
+            lsid(),
+            element(0x02, b"$db", &string(words.database.as_bytes())),
+        ]
+        .concat(),
+    );
+    let run: Vec<u8> = (0..records)
+        .flat_map(|index| record(words, index))
+        .collect();
+    let identifier = |index: usize| format!("{}{index}", words.documents).into_bytes();
     let mut draft = Draft::new(vec![Section::Body(body.clone())]);
     draft.flags = flags;
     let mut shorter = Vec::new();
     for index in 0..sequences {
         shorter = draft.bytes();
         draft.sections.push(Section::Sequence {
-            identifier: format!("documents{index}").into_bytes(),
+            identifier: identifier(index),
             documents: run.clone(),
         });
     }
     Item {
         name,
         message: draft.bytes(),
-        body: with_array(&body, sequences * records),
+        body: with_array(&body, words, sequences * records),
         flags,
         shorter,
-        identifier: format!("documents{}", sequences - 1).into_bytes(),
+        identifier: identifier(sequences - 1),
         all_documents: [body, run.repeat(sequences)].concat(),
         documents: run,
     }
 }
 
 /// The body with its records in an array instead of in sequences.
-fn with_array(body: &[u8], records: usize) -> Vec<u8> {
+fn with_array(body: &[u8], words: &Words, records: usize) -> Vec<u8> {
     let entries: Vec<u8> = (0..records)
-        .flat_map(|index| element(0x03, format!("{index}").as_bytes(), &record(index)))
+        .flat_map(|index| element(0x03, format!("{index}").as_bytes(), &record(words, index)))
         .collect();
-    let array = element(0x04, b"documents", &document(&entries));
+    let array = element(0x04, words.documents.as_bytes(), &document(&entries));
     document(&[&body[4..body.len() - 1], &array].concat())
 }
 
 /// One run of a meter.
-fn record(index: usize) -> Vec<u8> {
+fn record(words: &Words, index: usize) -> Vec<u8> {
     let mut id = [0x5A; 12];
     id[8..].copy_from_slice(&(index as u32).to_be_bytes());
+    let meter = string(words.meter_name.as_bytes());
     document(
         &[
             element(0x07, b"_id", &id),
-            element(0x02, b"meter", &string(b"FM-2041-DN50")),
-            number(b"mass", 997.1 + index as f64),
-            number(b"seconds", 60.02),
-            number(b"flow", 16.61),
-            number(b"uncertainty", 0.03),
-            element(0x08, b"signed", &[1]),
+            element(0x02, words.meter.as_bytes(), &meter),
+            number(words.mass.as_bytes(), 997.1 + index as f64),
+            number(words.seconds.as_bytes(), 60.02),
+            number(words.flow.as_bytes(), 16.61),
+            number(words.uncertainty.as_bytes(), 0.03),
+            element(0x08, words.signed.as_bytes(), &[1]),
         ]
         .concat(),
     )

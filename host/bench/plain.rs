@@ -120,6 +120,20 @@ fn zero_from(bytes: &[u8], at: usize, limit: usize) -> Option<usize> {
     Some(at + zero)
 }
 
+/// Sees that the text from `start` to `end` is UTF-8. Most texts are ASCII, and
+/// short, which is quicker to see by itself.
+#[inline]
+fn utf8_at(bytes: &[u8], start: usize, end: usize) -> Result<(), Refused> {
+    let text = &bytes[start..end];
+    if text.is_ascii() {
+        return Ok(());
+    }
+    match std::str::from_utf8(text) {
+        Ok(_) => Ok(()),
+        Err(fault) => Err((27, start + fault.valid_up_to())),
+    }
+}
+
 pub fn read(edition: Edition, buffer: &[u8]) -> Result<View, Refused> {
     let (view, _) = read_parts(edition, buffer, Reader::names_differ)?;
     Ok(view)
@@ -280,6 +294,7 @@ impl<'a> Reader<'a> {
             Some(zero) if zero > start => zero,
             _ => return Err((13, start)),
         };
+        utf8_at(self.bytes, start, zero)?;
         let documents = self.documents(zero + 1, end)?;
         Ok(Sequence {
             identifier_start: start,
@@ -338,6 +353,7 @@ impl<'a> Reader<'a> {
             let Some(zero) = zero_from(self.bytes, at + 1, last) else {
                 return Err((18, at + 1));
             };
+            utf8_at(self.bytes, at + 1, zero)?;
             if keep_names {
                 let text = &self.bytes[at + 1..zero];
                 self.names.push(Name {
@@ -354,15 +370,15 @@ impl<'a> Reader<'a> {
         let size = match kind {
             0x01 | 0x09 | 0x11 | 0x12 => Some(8),
             0x10 => Some(4),
-            0x02 | 0x0D | 0x0E => self.string(at, last),
+            0x02 | 0x0D | 0x0E => Some(self.string(at, at, last)?),
             0x03 | 0x04 => return self.document(at, last, level + 1, false),
             0x05 => self.binary(at, last),
             0x06 | 0x0A | 0x7F | 0xFF => Some(0),
             0x07 => Some(12),
             0x08 if self.bytes[at] <= 1 => Some(1),
             0x08 => None,
-            0x0B => self.expression(at, last),
-            0x0C => self.string(at, last).map(|size| size + 12),
+            0x0B => Some(self.expression(at, last)?),
+            0x0C => Some(self.string(at, at, last)? + 12),
             0x0F => return self.code_with_scope(at, last, level),
             _ => Some(16),
         };
@@ -372,15 +388,22 @@ impl<'a> Reader<'a> {
         }
     }
 
-    /// The size of a string that ends before the limit.
-    fn string(&self, at: usize, limit: usize) -> Option<usize> {
-        let room = (limit - at).checked_sub(4)?;
-        let length = i32_at(self.bytes, at);
-        if length < 1 || length as usize > room {
-            return None;
+    /// The size of the string at `at`, which ends before the limit, in the
+    /// value that starts at `value`.
+    fn string(&self, value: usize, at: usize, limit: usize) -> Result<usize, Refused> {
+        if limit - at < 5 {
+            return Err((19, value));
         }
-        let size = 4 + length as usize;
-        (self.bytes[at + size - 1] == 0).then_some(size)
+        let length = i32_at(self.bytes, at);
+        if length < 1 || length as usize > limit - at - 4 {
+            return Err((19, value));
+        }
+        let zero = at + 3 + length as usize;
+        if self.bytes[zero] != 0 {
+            return Err((19, value));
+        }
+        utf8_at(self.bytes, at + 4, zero)?;
+        Ok(zero + 1 - at)
     }
 
     fn binary(&self, at: usize, limit: usize) -> Option<usize> {
@@ -388,13 +411,25 @@ impl<'a> Reader<'a> {
             return None;
         }
         let length = usize::try_from(i32_at(self.bytes, at)).ok()?;
+        if self.bytes[at + 4] == 2 {
+            let content = length.checked_sub(4)?;
+            if length > limit - at - 5 || i32_at(self.bytes, at + 5) as usize != content {
+                return None;
+            }
+        }
         Some(5 + length)
     }
 
-    fn expression(&self, at: usize, limit: usize) -> Option<usize> {
-        let first = zero_from(self.bytes, at, limit)?;
-        let second = zero_from(self.bytes, first + 1, limit)?;
-        Some(second + 1 - at)
+    fn expression(&self, at: usize, limit: usize) -> Result<usize, Refused> {
+        let Some(first) = zero_from(self.bytes, at, limit) else {
+            return Err((19, at));
+        };
+        utf8_at(self.bytes, at, first)?;
+        let Some(second) = zero_from(self.bytes, first + 1, limit) else {
+            return Err((19, at));
+        };
+        utf8_at(self.bytes, first + 1, second)?;
+        Ok(second + 1 - at)
     }
 
     fn code_with_scope(&mut self, at: usize, last: usize, level: usize) -> Result<usize, Refused> {
@@ -406,9 +441,7 @@ impl<'a> Reader<'a> {
             return Err((19, at));
         }
         let end = at + total as usize;
-        let Some(size) = self.string(at + 4, end) else {
-            return Err((19, at));
-        };
+        let size = self.string(at, at + 4, end)?;
         if self.document(at + 4 + size, end, level + 1, false)? != end {
             return Err((19, at));
         }
@@ -541,6 +574,8 @@ pub fn append(
     let Some(output) = output.get_mut(..length) else {
         return Err((25, 0));
     };
+    utf8_at(identifier, 0, identifier.len())
+        .map_err(|(number, place)| (number, place + end + 5))?;
     let start = end + 6 + identifier.len();
     let mut reader = Reader::new(documents);
     reader.elements = old.elements;

@@ -21,6 +21,7 @@ use common::damage::damage;
 use common::generate::*;
 use common::random::Random;
 use common::reference::{self, Edition, Refused, View, MAX_MESSAGE, VIEW_NUMBERS};
+use common::text::{any_text, faulty_text, Faults};
 use common::{message::get_u32, setting};
 use relay::ffi;
 use std::fmt::Write as _;
@@ -146,7 +147,8 @@ fn any_write(random: &mut Random, edition: &Edition) -> Call {
 fn any_body(random: &mut Random, flags: u32) -> Vec<u8> {
     let style = any_style(random);
     match random.below(20) {
-        0..=11 => any_document(random, style),
+        0..=10 => any_document(random, style),
+        11 => bad_text_document(random),
         12..=14 => {
             let faulty = Style {
                 faults: 15,
@@ -203,9 +205,10 @@ fn any_identifier(random: &mut Random, edition: &Edition, message: &[u8]) -> Vec
         2 => vec![0],
         3 => b"trailing\0".to_vec(),
         4..=7 => taken_identifier(edition, message).unwrap_or_else(|| b"free".to_vec()),
+        8 => faulty_text(random),
         _ => {
             let length = random.between(1, 9);
-            random.text(length)
+            any_text(random, length)
         }
     }
 }
@@ -249,6 +252,7 @@ fn any_run(random: &mut Random, message: usize) -> Vec<u8> {
             let target = MAX_MESSAGE - random.below(24);
             padded(&EMPTY, target - message - EMPTY.len())
         }
+        6 => [any_documents(random, style), bad_text_document(random)].concat(),
         _ => any_documents(random, style),
     }
 }
@@ -353,10 +357,7 @@ impl Case {
     fn expected(&self) -> (Outcome, Result<View, Refused>) {
         let mut answer = self.reference_answer();
         if answer.is_ok() && self.numbers < VIEW_NUMBERS {
-            answer = Err(Refused {
-                number: 25,
-                place: 0,
-            });
+            answer = Err(Refused::new(25, 0));
         }
         let mut outcome = Outcome {
             result: 0,
@@ -546,21 +547,30 @@ const FEATURES: [&str; 8] = [
 ];
 
 /// The refusals that writing can give; the other calls can give all.
-const WRITE_NUMBERS: [usize; 11] = [2, 8, 15, 16, 17, 18, 19, 20, 21, 23, 25];
+const WRITE_NUMBERS: [usize; 12] = [2, 8, 15, 16, 17, 18, 19, 20, 21, 23, 25, 27];
+
+/// The refusals that there are.
+fn refusals() -> impl Iterator<Item = usize> {
+    (1..=25).chain([27])
+}
 
 /// How often each answer came.
 #[derive(Default)]
 struct Tally {
     /// For each call: accepted at 0, refused with number n at n.
-    answers: [[u64; 26]; 4],
+    answers: [[u64; 28]; 4],
     features: [u64; FEATURES.len()],
+    faults: Faults,
 }
 
 impl Tally {
     fn note(&mut self, case: &Case, answer: &Result<View, Refused>) {
         let row = &mut self.answers[case.call.index()];
         match answer {
-            Err(refused) => row[refused.number as usize] += 1,
+            Err(refused) => {
+                row[refused.number as usize] += 1;
+                self.faults.note(refused);
+            }
             Ok(view) => {
                 row[0] += 1;
                 self.note_features(case, view);
@@ -597,6 +607,7 @@ impl Tally {
             .iter_mut()
             .zip(&other.features)
             .for_each(|(sum, n)| *sum += n);
+        self.faults.add(&other.faults);
     }
 
     fn total(&self, number: usize) -> u64 {
@@ -608,7 +619,7 @@ impl Tally {
             "{:>8} {:>9} {:>9} {:>9} {:>9} {:>9}",
             "number", CALLS[0], CALLS[1], CALLS[2], CALLS[3], "all"
         );
-        for number in 0..26 {
+        for number in [0].into_iter().chain(refusals()) {
             let name = match number {
                 0 => "accepted".to_string(),
                 _ => number.to_string(),
@@ -620,11 +631,12 @@ impl Tally {
         for (name, count) in FEATURES.iter().zip(self.features) {
             println!("{count:>9} {name}");
         }
+        self.faults.print();
     }
 
     /// Every answer must come often, or the cases show too little.
     fn check(&self, cases: u64) {
-        for number in 1..26 {
+        for number in refusals() {
             let count = self.total(number);
             assert!(
                 count >= cases / 1_000,
@@ -633,10 +645,14 @@ impl Tally {
         }
         for (call, row) in CALLS.iter().zip(&self.answers) {
             assert!(row[0] >= cases / 50, "{call} accepted {} times", row[0]);
-            for (number, &count) in row.iter().enumerate().skip(1) {
+            // A text is at many places, so its refusal must come more often.
+            let made: u64 = row.iter().sum();
+            assert!(row[27] >= made / 200, "{call} refused with 27 too rarely");
+            for number in refusals() {
                 if *call == "write" && !WRITE_NUMBERS.contains(&number) {
                     continue;
                 }
+                let count = row[number];
                 assert!(
                     count >= cases / 10_000,
                     "{call} refused with {number} {count} times"
@@ -646,6 +662,7 @@ impl Tally {
         for (name, count) in FEATURES.iter().zip(self.features) {
             assert!(count >= cases / 2_000, "{name}: {count} times");
         }
+        self.faults.check(cases / 10_000);
     }
 }
 

@@ -24,6 +24,7 @@ use common::names::Family;
 use common::random::Random;
 use common::reference::{self, Edition, Refused, View, MAX_ELEMENTS, MAX_MESSAGE, VIEW_NUMBERS};
 use common::setting;
+use common::text::{any_character, any_text};
 use relay::ffi;
 use std::collections::HashMap;
 
@@ -292,16 +293,13 @@ fn of_several_the_first_counts() {
 fn names_that_differ_in_one_byte() {
     let mut random = Random::new(11);
     for length in (1..=24).chain([31, 32, 33, 47, 64, 65, 100]) {
-        let base = random.text(length);
+        let base = short_characters(&mut random, length);
         let mut names = vec![base.clone()];
         for place in 0..length {
-            for step in [1, 0x40, 0x80] {
+            for bit in [0x01, 0x10, 0x40] {
                 let mut name = base.clone();
-                name[place] = match base[place].wrapping_add(step) {
-                    0 => base[place] - 1,
-                    byte => byte,
-                };
-                if !names.contains(&name) && name[place] != 0 {
+                name[place] ^= bit;
+                if name[place] != 0 && std::str::from_utf8(&name).is_ok() {
                     names.push(name);
                 }
             }
@@ -314,6 +312,21 @@ fn names_that_differ_in_one_byte() {
             check_pair(&names, earlier, last, &case);
         }
     }
+}
+
+/// So many bytes of characters with one or two each.
+fn short_characters(random: &mut Random, length: usize) -> Vec<u8> {
+    let mut text = String::new();
+    while text.len() < length {
+        let two = length - text.len() >= 2 && random.percent(50);
+        let number = if two {
+            random.between(0x80, 0x7FF)
+        } else {
+            random.between(0x01, 0x7F)
+        };
+        text.push(char::from_u32(number as u32).expect("no surrogate"));
+    }
+    text.into_bytes()
 }
 
 #[test]
@@ -336,15 +349,23 @@ fn an_empty_name_may_stand_once() {
 
 #[test]
 fn names_that_begin_other_names() {
-    let text: Vec<u8> = Random::new(5).text(150);
-    let rising: Names = (0..=150).map(|length| text[..length].to_vec()).collect();
-    let falling: Names = rising.iter().rev().cloned().collect();
-    // The same for the ends of a text.
-    let ends: Names = (0..=150).map(|start| text[start..].to_vec()).collect();
-    for (names, case) in [(rising, "rising"), (falling, "falling"), (ends, "ends")] {
-        check(&names, None, case);
-        for earlier in [0, 1, 3, 4, 5, 63, 64, 100, 149] {
-            check_pair(&names, earlier, 150, case);
+    let mut random = Random::new(5);
+    let letters: Vec<char> = (0..150)
+        .map(|_| random.between(0x01, 0x7F) as u8 as char)
+        .collect();
+    let characters: Vec<char> = (0..150).map(|_| any_character(&mut random)).collect();
+    for (text, what) in [(letters, "letters"), (characters, "characters")] {
+        let name = |part: &[char]| part.iter().collect::<String>().into_bytes();
+        let rising: Names = (0..=150).map(|length| name(&text[..length])).collect();
+        let falling: Names = rising.iter().rev().cloned().collect();
+        // The same for the ends of a text.
+        let ends: Names = (0..=150).map(|start| name(&text[start..])).collect();
+        for (names, how) in [(rising, "rising"), (falling, "falling"), (ends, "ends")] {
+            let case = format!("{what}, {how}");
+            check(&names, None, &case);
+            for earlier in [0, 1, 3, 4, 5, 63, 64, 100, 149] {
+                check_pair(&names, earlier, 150, &case);
+            }
         }
     }
 }
@@ -352,10 +373,16 @@ fn names_that_begin_other_names() {
 /// All names of one byte, and some of two and three.
 #[test]
 fn short_names() {
-    let one: Names = (1..=255).map(|byte| vec![byte]).collect();
-    let two: Names = (1..=255).map(|byte| vec![byte, 1]).collect();
-    let three: Names = (1..=255).map(|byte| vec![0xFF, byte, 1]).collect();
-    let mut names = [one, two, three].concat();
+    let of = |first: u32, last: u32| -> Names {
+        (first..=last)
+            .map(|number| char::from_u32(number).expect("no surrogate"))
+            .map(|character| character.to_string().into_bytes())
+            .collect()
+    };
+    let one = of(0x01, 0x7F);
+    let two: Names = one.iter().map(|name| [name, &[1][..]].concat()).collect();
+    let characters = [of(0x80, 0x17F), of(0x800, 0x8FF), of(0xFF00, 0xFFFF)].concat();
+    let mut names = [one, two, characters].concat();
     check(&names, None, "short");
     let last = names.len();
     names.push(Vec::new());
@@ -385,7 +412,7 @@ fn names_at_other_levels_do_not_count() {
         let named = Named::new(&elements, Vec::new());
         let expected = reference::read(&HOUSE, &named.message);
         let place = named.places[70];
-        assert_eq!(expected, Err(Refused { number: 23, place }), "{case}");
+        assert_eq!(expected, Err(Refused::new(23, place)), "{case}");
         compare_read(&named.message, &expected, &case);
     }
 }
@@ -433,7 +460,7 @@ fn random_body(random: &mut Random, case: &str) -> bool {
     match again {
         Some(index) => {
             let place = named.places[index];
-            assert_eq!(refused, Some(Refused { number: 23, place }), "{case}");
+            assert_eq!(refused, Some(Refused::new(23, place)), "{case}");
         }
         // A sequence may have one of the names.
         None => assert!(refused.is_none_or(|r| r.number == 24), "{case}"),
@@ -462,20 +489,20 @@ fn any_names(random: &mut Random, count: usize) -> Names {
         // A common start, and a number that makes them different.
         6..=7 => {
             let length = random.below(8);
-            let text = random.text(length);
+            let text = any_text(random, length);
             (0..count)
                 .map(|index| [&text, format!("{index}").as_bytes()].concat())
                 .collect()
         }
-        // One byte of a text changed, at times to what it was.
+        // One character of a text changed, at times to what it was.
         8 => {
             let length = random.between(1, 20);
-            let text = random.text(length);
+            let text: Vec<char> = (0..length).map(|_| any_character(random)).collect();
             (0..count.min(300))
                 .map(|_| {
                     let mut name = text.clone();
-                    name[random.below(length)] = random.byte().max(1);
-                    name
+                    name[random.below(length)] = any_character(random);
+                    name.into_iter().collect::<String>().into_bytes()
                 })
                 .collect()
         }
@@ -484,7 +511,7 @@ fn any_names(random: &mut Random, count: usize) -> Names {
             (0..count)
                 .map(|_| {
                     let length = random.between(longest.min(4), longest.max(4));
-                    random.text(length)
+                    any_text(random, length)
                 })
                 .collect()
         }
@@ -529,7 +556,9 @@ fn any_sections_before(random: &mut Random, names: &Names) -> Vec<Section> {
         return Vec::new();
     }
     let mut identifier = any_identifier(random, names);
-    identifier.truncate(80);
+    if identifier.len() > 80 {
+        identifier = b"+long".to_vec();
+    }
     vec![Section::Sequence {
         identifier,
         documents: EMPTY.to_vec(),

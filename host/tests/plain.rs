@@ -11,6 +11,7 @@ use common::generate::*;
 use common::random::Random;
 use common::reference::{self, Edition, Refused, View, MAX_MESSAGE};
 use common::setting;
+use common::text::{any_text, faulty_text, Faults};
 
 fn same_view(plain: &plain::View, view: &View) -> bool {
     let numbers = view.numbers();
@@ -38,13 +39,13 @@ fn same_view(plain: &plain::View, view: &View) -> bool {
 
 fn compare(
     answer: Result<plain::View, plain::Refused>,
-    expected: Result<(View, Vec<u8>), Refused>,
+    expected: &Result<(View, Vec<u8>), Refused>,
     output: &[u8],
 ) -> bool {
     match (answer, expected) {
         (Ok(view), Ok((expected, message))) => {
-            same_view(&view, &expected)
-                && output[..message.len()] == message
+            same_view(&view, expected)
+                && output[..message.len()] == *message
                 && output[message.len()..].iter().all(|&byte| byte == 0xAA)
         }
         (Err(refused), Err(expected)) => {
@@ -54,10 +55,30 @@ fn compare(
     }
 }
 
+const CASES: u64 = 40_000;
+
+/// How often a text was not UTF-8.
+#[derive(Default)]
+struct Seen {
+    /// In read, forward, append and write.
+    calls: [u64; 4],
+    faults: Faults,
+}
+
+impl Seen {
+    fn note<T>(&mut self, call: usize, expected: &Result<T, Refused>) {
+        if let Err(refused) = expected {
+            self.calls[call] += u64::from(refused.number == 27);
+            self.faults.note(refused);
+        }
+    }
+}
+
 #[test]
 fn the_plain_reader_agrees_with_the_independent_one() {
     let seed = setting("RELAY_SEED", 1);
-    for case in 0..20_000 {
+    let mut seen = Seen::default();
+    for case in 0..CASES {
         let random = &mut Random::for_case(seed ^ 0xBE, case);
         let edition = any_edition(random);
         let known = plain::Edition {
@@ -75,38 +96,61 @@ fn the_plain_reader_agrees_with_the_independent_one() {
             plain::read_with(known, &message, plain::by_order),
         ] {
             assert!(
-                compare(answer, expected.clone(), &[]),
+                compare(answer, &expected, &[]),
                 "seed {seed}, case {case}: read"
             );
         }
+        seen.note(0, &expected);
 
         let answer = plain::forward(known, &message, &mut output);
         let expected = reference::forward(&edition, &message, room);
         assert!(
-            compare(answer, expected, &output),
+            compare(answer, &expected, &output),
             "seed {seed}, case {case}: forward"
         );
+        seen.note(1, &expected);
 
-        let style = any_style(random);
+        let style = Style {
+            faults: random.pick(&[0, 0, 15]),
+            ..any_style(random)
+        };
         let documents = any_documents(random, style);
-        let identifier = random.text(3);
+        let identifier = match random.below(10) {
+            0 => faulty_text(random),
+            1 => random.text(3),
+            _ => any_text(random, 3),
+        };
         output.fill(0xAA);
         let answer = plain::append(known, &message, &identifier, &documents, &mut output);
         let expected = reference::append(&edition, &message, &identifier, &documents, room);
         assert!(
-            compare(answer, expected, &output),
+            compare(answer, &expected, &output),
             "seed {seed}, case {case}: append"
         );
+        seen.note(2, &expected);
 
         let flags = any_flags(random, &edition);
         output.fill(0xAA);
-        let answer = plain::write(known, 1, -2, flags, &documents, &mut output);
-        let expected = reference::write(&edition, 1, -2, flags, &documents, room);
+        let body = match random.below(8) {
+            0 => documents,
+            1 => bad_text_document(random),
+            _ => any_document(random, style),
+        };
+        let answer = plain::write(known, 1, -2, flags, &body, &mut output);
+        let expected = reference::write(&edition, 1, -2, flags, &body, room);
         assert!(
-            compare(answer, expected, &output),
+            compare(answer, &expected, &output),
             "seed {seed}, case {case}: write"
         );
+        seen.note(3, &expected);
     }
+    seen.faults.print();
+    assert!(
+        seen.calls.iter().all(|&count| count >= CASES / 200),
+        "27 came {:?} times",
+        seen.calls
+    );
+    seen.faults.check(CASES / 1_000);
 }
 
 fn any_message(random: &mut Random, edition: &Edition) -> Vec<u8> {

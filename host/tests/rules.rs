@@ -1,5 +1,6 @@
-//! The trials T1 to T14 of document 01, its limits and its marked orders, run
-//! directly. The independent reader must give the same answers.
+//! The trials T1 to T14 of document 01, its limits and its marked orders, and
+//! where texts and binaries of subtype 02 (change request 4) come among them,
+//! run directly. The independent reader must give the same answers.
 
 mod common;
 
@@ -7,7 +8,7 @@ use common::bson::*;
 use common::message::*;
 use common::reference::{self, crc32c, crc32c_by_bits, MAX_MESSAGE};
 use common::PING;
-use relay::{append, forward, read, write, Edition, Refusal, View};
+use relay::{append, ffi, forward, read, write, Edition, Refusal, View};
 
 const HOUSE: Edition = Edition::HOUSE;
 
@@ -657,5 +658,533 @@ fn no_body_comes_before_a_clash_of_identifiers() {
     assert_eq!(
         read_both(&HOUSE, &message),
         Err(Refusal::NoBody(message.len()))
+    );
+}
+
+// ------------------------------------------------------------------- texts
+
+/// A text that is UTF-8 up to its byte 2.
+const BAD: &[u8] = b"ab\xFFcd";
+
+/// An edition that does not know sequences.
+const BODIES_ONLY: Edition = Edition {
+    sequences: false,
+    ..HOUSE
+};
+
+/// Reads a message with these elements in its body. The body starts at 21, so
+/// the first element's type is at 25 and its name at 26; after a name of one
+/// letter the value is at 28.
+fn read_elements(elements: &[u8]) -> Result<View, Refusal> {
+    read_both(&HOUSE, &with_body(document(elements)))
+}
+
+/// The same with one element, whose value is at 28.
+fn read_value(kind: u8, value: &[u8]) -> Result<View, Refusal> {
+    read_elements(&element(kind, b"n", value))
+}
+
+/// Reads sections, of which the first is at 20.
+fn read_sections(sections: &[Section]) -> Result<View, Refusal> {
+    read_both(&HOUSE, &Draft::new(sections.to_vec()).bytes())
+}
+
+fn with_identifier(identifier: &[u8], documents: &[u8]) -> Section {
+    Section::Sequence {
+        identifier: identifier.to_vec(),
+        documents: documents.to_vec(),
+    }
+}
+
+/// The value with one of its numbers changed.
+fn changed(value: &[u8], at: usize, number: u32) -> Vec<u8> {
+    let mut value = value.to_vec();
+    put_u32(&mut value, at, number);
+    value
+}
+
+#[test]
+fn a_name_is_checked_between_its_zero_and_its_value() {
+    let bad_name = Err(Refusal::TextNotUtf8(28));
+    assert_eq!(read_elements(&element(0x0A, BAD, b"")), bad_name);
+    // Its type and its zero come before.
+    assert_eq!(
+        read_elements(&element(0x77, BAD, b"")),
+        Err(Refusal::UnknownType(25))
+    );
+    assert_eq!(
+        read_elements(b"\x0A\xFF\xFF"),
+        Err(Refusal::NameWithoutZero(26))
+    );
+    // All of its value comes later.
+    assert_eq!(read_elements(&element(0x08, BAD, &[2])), bad_name);
+    assert_eq!(read_elements(&element(0x02, BAD, &[9])), bad_name);
+    assert_eq!(read_elements(&element(0x02, BAD, &string(BAD))), bad_name);
+    assert_eq!(
+        read_elements(&element(0x05, BAD, &binary(2, b""))),
+        bad_name
+    );
+    let open = [5, 0, 0, 0, 9];
+    assert_eq!(read_elements(&element(0x03, BAD, &open)), bad_name);
+    assert_eq!(read_elements(&element(0x04, BAD, &open[..3])), bad_name);
+}
+
+#[test]
+fn a_bad_name_after_other_elements() {
+    let null = element(0x0A, b"n", b"");
+    let bad = element(0x0A, BAD, b"");
+    // From left to right: a bad value before it, a name twice after all.
+    let wrong = element(0x08, b"n", &[2]);
+    assert_eq!(
+        read_elements(&[&wrong[..], &bad].concat()),
+        Err(Refusal::BadValue(28))
+    );
+    assert_eq!(
+        read_elements(&[&null[..], &null, &bad].concat()),
+        Err(Refusal::TextNotUtf8(34))
+    );
+    assert_eq!(
+        read_elements(&[&bad[..], &bad].concat()),
+        Err(Refusal::TextNotUtf8(28))
+    );
+
+    // The last element that a message may have, and one too many.
+    let crowd = |count: usize| {
+        let nulls = nulls(count);
+        let place = 21 + nulls.len() - 1;
+        let elements = [&nulls[4..nulls.len() - 1], &bad].concat();
+        (place, read_elements(&elements))
+    };
+    let (place, answer) = crowd(4_095);
+    assert_eq!(answer, Err(Refusal::TextNotUtf8(place + 3)));
+    let (place, answer) = crowd(4_096);
+    assert_eq!(answer, Err(Refusal::TooManyElements(place)));
+}
+
+#[test]
+fn a_document_s_frame_comes_before_the_names_in_it() {
+    let bad = document(&element(0x0A, BAD, b""));
+    let last = bad.len() - 1;
+    let mut open = bad.clone();
+    open[last] = 1;
+    assert_eq!(
+        read_both(&HOUSE, &with_body(open.clone())),
+        Err(Refusal::DocumentLastByte(21 + last))
+    );
+    let long = changed(&bad, 0, 99);
+    assert_eq!(
+        read_both(&HOUSE, &with_body(long.clone())),
+        Err(Refusal::DocumentLength(21))
+    );
+    // The same one level deeper, where the name is at 28 + 5.
+    assert_eq!(
+        read_value(0x03, &open),
+        Err(Refusal::DocumentLastByte(28 + last))
+    );
+    assert_eq!(read_value(0x04, &long), Err(Refusal::DocumentLength(28)));
+    assert_eq!(read_value(0x03, &bad), Err(Refusal::TextNotUtf8(35)));
+    // In a scope: a total, a string of five bytes, a length, a type.
+    let scoped = code_with_scope(b"", &bad);
+    assert_eq!(read_value(0x0F, &scoped), Err(Refusal::TextNotUtf8(44)));
+
+    // The name of a document at level 33 comes before its level.
+    let mut deep = document(&element(0x03, b"\xFF", &EMPTY));
+    for _ in 1..32 {
+        deep = document(&element(0x03, b"n", &deep));
+    }
+    assert_eq!(
+        read_both(&HOUSE, &with_body(deep)),
+        Err(Refusal::TextNotUtf8(21 + 31 * 7 + 5))
+    );
+}
+
+#[test]
+fn strings_are_checked_after_their_length_and_zero() {
+    for kind in [0x02, 0x0D, 0x0E] {
+        let read = |value: &[u8]| read_value(kind, value);
+        // The text is at 32.
+        assert_eq!(read(&string(BAD)), Err(Refusal::TextNotUtf8(34)));
+        assert_eq!(read(&string(b"\xFF")), Err(Refusal::TextNotUtf8(32)));
+        for length in [0, 5, 7, u32::MAX] {
+            let wrong = changed(&string(BAD), 0, length);
+            assert_eq!(read(&wrong), Err(Refusal::BadValue(28)));
+        }
+        let mut open = string(BAD);
+        open[9] = 1;
+        assert_eq!(read(&open), Err(Refusal::BadValue(28)));
+        assert_eq!(read(&string(BAD)[..9]), Err(Refusal::BadValue(28)));
+
+        // A zero inside is a character, and the text goes on behind it.
+        assert!(read(&string(b"")).is_ok());
+        assert!(read(&string(b"a\0b\0")).is_ok());
+        assert_eq!(read(&string(b"a\0\xFF")), Err(Refusal::TextNotUtf8(34)));
+        // The zero behind the text is none of its bytes.
+        assert_eq!(read(&string(b"ab\xC3")), Err(Refusal::TextNotUtf8(34)));
+    }
+}
+
+#[test]
+fn a_character_that_is_no_character_is_placed_at_its_first_byte() {
+    let faults: [&[u8]; 22] = [
+        // Cut off by the end and by other bytes.
+        b"\xC2",
+        b"\xE2\x82",
+        b"\xF0\x9F\x98",
+        b"\xC2a",
+        b"\xE2\x82a",
+        b"\xE2\x82\xC2\xA0",
+        b"\xF0\x9F\x98a",
+        b"\xF0\x9F\x98\xE2\x82\xAC",
+        // Too long: /, U+007F, U+07FF, U+FFFF.
+        b"\xC0\xAF",
+        b"\xC1\xBF",
+        b"\xE0\x80\xAF",
+        b"\xE0\x9F\xBF",
+        b"\xF0\x80\x80\xAF",
+        b"\xF0\x8F\xBF\xBF",
+        // The first and the last surrogate, and 110000.
+        b"\xED\xA0\x80",
+        b"\xED\xBF\xBF",
+        b"\xF4\x90\x80\x80",
+        b"\xF5\x80\x80\x80",
+        // Bytes that no character has, and a tail alone.
+        b"\xF8\x88\x80\x80\x80",
+        b"\xFE",
+        b"\x80",
+        b"\xBF\xBF",
+    ];
+    for fault in faults {
+        for before in ["", "a", "é", "€", "😀", "Überlauf 水"] {
+            let text = [before.as_bytes(), fault].concat();
+            let place = 32 + before.len();
+            assert_eq!(
+                read_value(0x02, &string(&text)),
+                Err(Refusal::TextNotUtf8(place)),
+                "{fault:02X?}"
+            );
+        }
+    }
+    // A name in a Latin code page.
+    assert_eq!(
+        read_value(0x02, &string(b"M\xFCller")),
+        Err(Refusal::TextNotUtf8(33))
+    );
+}
+
+#[test]
+fn characters_at_the_edges_are_accepted() {
+    let text = "\u{1}\u{7F}\u{80}\u{7FF}\u{800}\u{FFF}\u{1000}\u{CFFF}\u{D000}\u{D7FF}\
+        \u{E000}\u{FEFF}\u{FDD0}\u{FFFD}\u{FFFE}\u{FFFF}\u{10000}\u{3FFFF}\u{40000}\
+        \u{FFFFF}\u{100000}\u{10FFFF}"
+        .as_bytes();
+    assert!(read_elements(&element(0x0A, text, b"")).is_ok());
+    assert!(read_value(0x02, &string(text)).is_ok());
+    let expression = [text, b"\0", text, b"\0"].concat();
+    assert!(read_value(0x0B, &expression).is_ok());
+    assert!(
+        read_sections(&[Section::Body(EMPTY.to_vec()), with_identifier(text, &EMPTY),]).is_ok()
+    );
+}
+
+#[test]
+fn both_parts_of_a_regular_expression() {
+    let read = |parts: &[&[u8]]| read_value(0x0B, &parts.concat());
+    assert!(read(&[b"\0\0"]).is_ok());
+    assert!(read(&["größe\0".as_bytes(), "水\0".as_bytes()]).is_ok());
+    // A part without its zero is 19, whatever it holds.
+    assert_eq!(read(&[BAD]), Err(Refusal::BadValue(28)));
+    assert_eq!(read(&[b"a\0", BAD]), Err(Refusal::BadValue(28)));
+    // The first part comes before the second one's zero.
+    assert_eq!(read(&[BAD, b"\0"]), Err(Refusal::TextNotUtf8(30)));
+    assert_eq!(read(&[BAD, b"\0", b"i"]), Err(Refusal::TextNotUtf8(30)));
+    assert_eq!(
+        read(&[BAD, b"\0", BAD, b"\0"]),
+        Err(Refusal::TextNotUtf8(30))
+    );
+    assert_eq!(
+        read(&[b"a\0", BAD, b"\0"]),
+        Err(Refusal::TextNotUtf8(30 + 2))
+    );
+}
+
+#[test]
+fn a_pointer_s_string_comes_before_its_twelve_bytes() {
+    let read = |text: &[u8], rest: usize| {
+        let value = [string(text), vec![0xFF; rest]].concat();
+        read_value(0x0C, &value)
+    };
+    assert!(read(b"ab", 12).is_ok());
+    assert_eq!(read(b"ab", 11), Err(Refusal::BadValue(28)));
+    assert_eq!(read(BAD, 12), Err(Refusal::TextNotUtf8(34)));
+    assert_eq!(read(BAD, 11), Err(Refusal::TextNotUtf8(34)));
+    assert_eq!(read(BAD, 0), Err(Refusal::TextNotUtf8(34)));
+    let wrong = changed(&string(BAD), 0, 5);
+    assert_eq!(
+        read_value(0x0C, &[&wrong[..], &[0; 12]].concat()),
+        Err(Refusal::BadValue(28))
+    );
+}
+
+#[test]
+fn the_code_comes_between_its_length_and_its_scope() {
+    // The total at 28, the string's length at 32, the text at 36.
+    let read = |value: &[u8]| read_value(0x0F, value);
+    let bad = code_with_scope(BAD, &EMPTY);
+    let not_utf8 = Err(Refusal::TextNotUtf8(38));
+    assert_eq!(read(&bad), not_utf8);
+    for total in [13, 99, u32::MAX] {
+        assert_eq!(read(&changed(&bad, 0, total)), Err(Refusal::BadValue(28)));
+    }
+    for length in [0, 5, 12] {
+        assert_eq!(read(&changed(&bad, 4, length)), Err(Refusal::BadValue(28)));
+    }
+    // The total leaves too little room for the scope, or none.
+    assert_eq!(read(&changed(&bad, 0, 15)), not_utf8);
+    assert_eq!(read(&changed(&bad, 0, 14)), not_utf8);
+    // The scope has a wrong length or last byte, or leaves bytes over.
+    assert_eq!(read(&code_with_scope(BAD, &[9, 0, 0, 0, 0])), not_utf8);
+    assert_eq!(read(&code_with_scope(BAD, &[5, 0, 0, 0, 9])), not_utf8);
+    assert_eq!(read(&code_with_scope(BAD, &[5, 0, 0, 0, 0, 0])), not_utf8);
+
+    // At level 33 the code is checked before the scope's level.
+    let mut deep = document(&element(0x0F, b"n", &code_with_scope(b"\xFF", &EMPTY)));
+    for _ in 1..32 {
+        deep = document(&element(0x03, b"n", &deep));
+    }
+    assert_eq!(
+        read_both(&HOUSE, &with_body(deep)),
+        Err(Refusal::TextNotUtf8(21 + 31 * 7 + 7 + 8))
+    );
+}
+
+#[test]
+fn an_identifier_comes_before_the_documents_behind_it() {
+    // The kind at 20, the size at 21, the identifier at 25.
+    let body = Section::Body(EMPTY.to_vec());
+    let not_utf8 = Err(Refusal::TextNotUtf8(27));
+    let first = |section: Section| read_sections(&[section, body.clone()]);
+    assert_eq!(first(with_identifier(BAD, &EMPTY)), not_utf8);
+    assert_eq!(first(with_identifier(BAD, b"")), not_utf8);
+    assert_eq!(first(with_identifier(BAD, &[9])), not_utf8);
+    assert_eq!(first(with_identifier(BAD, &[5, 0, 0, 0, 9])), not_utf8);
+
+    // Its size and its zero come before.
+    let wrong_size = changed(&sequence(BAD, &EMPTY), 1, 9_999);
+    assert_eq!(
+        first(Section::Raw(wrong_size)),
+        Err(Refusal::SectionSize(21))
+    );
+    let open = b"\x01\x06\0\0\0\xFF\xFF".to_vec();
+    assert_eq!(first(Section::Raw(open)), Err(Refusal::BadIdentifier(25)));
+    assert_eq!(
+        first(with_identifier(b"", &EMPTY)),
+        Err(Refusal::BadIdentifier(25))
+    );
+
+    let bodies_only = |sections: &[Section]| {
+        let message = Draft::new(sections.to_vec()).bytes();
+        read_both(&BODIES_ONLY, &message)
+    };
+    assert_eq!(
+        bodies_only(&[with_identifier(BAD, &EMPTY), body.clone()]),
+        Err(Refusal::UnknownKind(20))
+    );
+}
+
+#[test]
+fn an_identifier_among_other_sections() {
+    let body = Section::Body(EMPTY.to_vec());
+    let bad = with_identifier(BAD, b"");
+    let good = with_identifier(b"n", b"");
+    // A section without documents has 6 bytes and its identifier.
+    assert_eq!(
+        read_sections(std::slice::from_ref(&bad)),
+        Err(Refusal::TextNotUtf8(27))
+    );
+    assert_eq!(
+        read_sections(&[bad.clone(), body.clone(), body.clone()]),
+        Err(Refusal::TextNotUtf8(27))
+    );
+    assert_eq!(
+        read_sections(&[body.clone(), body.clone(), bad.clone()]),
+        Err(Refusal::SecondBody(26))
+    );
+    // Equal identifiers are looked at when all sections are read.
+    assert_eq!(
+        read_sections(&[good.clone(), good.clone(), bad.clone(), body.clone()]),
+        Err(Refusal::TextNotUtf8(20 + 7 + 7 + 5 + 2))
+    );
+    let twice = Section::Body(document(&element(0x0A, b"n", b"").repeat(2)));
+    assert_eq!(
+        read_sections(&[bad.clone(), twice]),
+        Err(Refusal::TextNotUtf8(27))
+    );
+
+    // A seventeenth sequence is refused before its identifier.
+    let mut sections = vec![body];
+    sections.extend((0..16).map(|index| with_identifier(&[b'a' + index], b"")));
+    sections.push(bad);
+    let kind = 20 + 6 + 16 * 7;
+    assert_eq!(
+        read_sections(&sections),
+        Err(Refusal::SeventeenthSequence(kind))
+    );
+}
+
+#[test]
+fn the_flags_and_the_checksum_come_before_a_text() {
+    let bad = with_body(document(&element(0x0A, BAD, b"")));
+    let refused = |flags: u32| read_both(&HOUSE, &with_flags(&bad, flags));
+    assert_eq!(refused(4), Err(Refusal::UnknownFlag(16)));
+    assert_eq!(refused(1), Err(Refusal::TextNotUtf8(28)));
+    let mut unsigned = with_flags(&bad, 1);
+    let end = unsigned.len() - 4;
+    unsigned[end] ^= 1;
+    assert_eq!(
+        read_both(&HOUSE, &unsigned),
+        Err(Refusal::ChecksumDiffers(end))
+    );
+}
+
+#[test]
+fn forwarding_refuses_a_text_before_a_short_output_and_view() {
+    let bad = with_body(document(&element(0x0A, BAD, b"")));
+    assert_eq!(
+        forward(&HOUSE, &bad, &mut []),
+        Err(Refusal::TextNotUtf8(28))
+    );
+    let mut output = vec![0xAA; ROOM];
+    assert_eq!(
+        forward(&HOUSE, &bad, &mut output),
+        Err(Refusal::TextNotUtf8(28))
+    );
+    assert!(output.iter().all(|&byte| byte == 0xAA));
+    assert_eq!(ffi::read(HOUSE.bits, 1, &bad, &mut []), 27 << 32 | 28);
+    let result = ffi::forward(HOUSE.bits, 1, &bad, &mut output, &mut []);
+    assert_eq!(result, 27 << 32 | 28);
+}
+
+#[test]
+fn binaries_of_subtype_02_state_their_length_again() {
+    let read = |value: &[u8]| read_value(0x05, value);
+    let wrong = Err(Refusal::BadValue(28));
+    for content in [&b""[..], b"a", b"abcd", b"\xFF\xFF\xFF\xFF"] {
+        assert!(read(&old_binary(content)).is_ok());
+    }
+    // No room for the length.
+    for outer in 0..4 {
+        assert_eq!(read(&binary(2, &[0; 4][..outer])), wrong);
+    }
+    let good = old_binary(b"abcd");
+    for inner in [0, 3, 5, 8, 0x0100_0004, 1 << 31, u32::MAX] {
+        assert_eq!(read(&changed(&good, 5, inner)), wrong);
+    }
+    assert_eq!(read(&changed(&old_binary(b""), 5, u32::MAX)), wrong);
+    // The outer length is wrong: under the inner one, over the document, under 0.
+    for outer in [7, 9, 49_000, u32::MAX] {
+        assert_eq!(read(&changed(&good, 0, outer)), wrong);
+    }
+    // The inner length stands behind the document's last byte.
+    assert_eq!(read(&good[..5]), wrong);
+    assert_eq!(read(&good[..8]), wrong);
+    for subtype in (0..=255).filter(|&subtype| subtype != 2) {
+        assert!(read(&binary(subtype, b"\xFF")).is_ok());
+        assert!(read(&binary(subtype, &[9; 8])).is_ok());
+    }
+}
+
+#[test]
+fn the_order_of_write_with_a_bad_text() {
+    let body = document(&element(0x02, b"n", &string(BAD)));
+    let mut output = vec![0xAA; ROOM];
+    let mut refusal = |flags: u32, body: &[u8], room: usize| {
+        let refusal = write(&HOUSE, 0, 0, flags, body, &mut output[..room]).unwrap_err();
+        assert!(output.iter().all(|&byte| byte == 0xAA));
+        refusal
+    };
+    let huge = padded(&body, MAX_MESSAGE);
+    assert_eq!(refusal(4, &huge, 0), Refusal::UnknownFlag(16));
+    assert_eq!(refusal(0, &huge, 0), Refusal::LengthOutOfRange(0));
+    let length = 21 + body.len();
+    assert_eq!(refusal(0, &body, length - 1), Refusal::OutputShort(0));
+    assert_eq!(
+        refusal(0, &changed(&body, 0, 9), length),
+        Refusal::DocumentLength(21)
+    );
+    // The value at 28, its text at 32.
+    assert_eq!(refusal(0, &body, length), Refusal::TextNotUtf8(34));
+    assert_eq!(refusal(1, &body, length + 4), Refusal::TextNotUtf8(34));
+    assert_eq!(refusal(1, &body, ROOM), Refusal::TextNotUtf8(34));
+}
+
+#[test]
+fn the_order_of_append_with_a_bad_text() {
+    let bad = with_body(document(&element(0x0A, BAD, b"")));
+    let mut output = vec![0xAA; ROOM];
+    let huge = vec![0; MAX_MESSAGE];
+    let mut refusal = |edition: &Edition, message: &[u8], id: &[u8], run: &[u8], room: usize| {
+        let refusal = append(edition, message, id, run, &mut output[..room]).unwrap_err();
+        assert!(output.iter().all(|&byte| byte == 0xAA));
+        refusal
+    };
+    // The message's own text, before anything that is new.
+    assert_eq!(
+        refusal(&BODIES_ONLY, &bad, b"", &huge, 0),
+        Refusal::TextNotUtf8(28)
+    );
+    // The identifier's, behind 10, 13, 2 and 25. It stands at 41.
+    assert_eq!(
+        refusal(&BODIES_ONLY, &PING, BAD, &huge, 0),
+        Refusal::UnknownKind(36)
+    );
+    assert_eq!(
+        refusal(&HOUSE, &PING, b"ab\xFF\0", &huge, 0),
+        Refusal::BadIdentifier(41)
+    );
+    assert_eq!(
+        refusal(&HOUSE, &PING, BAD, &huge, 0),
+        Refusal::LengthOutOfRange(0)
+    );
+    assert_eq!(
+        refusal(&HOUSE, &PING, BAD, b"", 46),
+        Refusal::OutputShort(0)
+    );
+    assert_eq!(
+        refusal(&HOUSE, &PING, BAD, b"", 47),
+        Refusal::TextNotUtf8(43)
+    );
+    // It comes before the documents, which come before a clash of names.
+    assert_eq!(
+        refusal(&HOUSE, &PING, BAD, &[9], 48),
+        Refusal::TextNotUtf8(43)
+    );
+    let run = document(&element(0x02, b"n", &string(BAD)));
+    let both = [&EMPTY, &run[..]].concat();
+    assert_eq!(
+        refusal(&HOUSE, &PING, BAD, &both, ROOM),
+        Refusal::TextNotUtf8(43)
+    );
+    // The documents are at 46: the empty one, a length, an element, a length.
+    assert_eq!(
+        refusal(&HOUSE, &PING, b"ping", &both, ROOM),
+        Refusal::TextNotUtf8(46 + 5 + 4 + 3 + 4 + 2)
+    );
+
+    // Under a checksum the section is at the same place.
+    let signed = with_flags(&PING, 1);
+    assert_eq!(
+        refusal(&HOUSE, &signed, BAD, b"", ROOM),
+        Refusal::TextNotUtf8(43)
+    );
+}
+
+#[test]
+fn sixteen_sequences_come_before_a_new_identifier_that_is_not_utf_8() {
+    let mut sections = vec![Section::Body(EMPTY.to_vec())];
+    sections.extend((0..16).map(|index| with_identifier(&[b'a' + index], b"")));
+    let message = Draft::new(sections).bytes();
+    assert_eq!(
+        append(&HOUSE, &message, BAD, b"", &mut [0; 1_000]),
+        Err(Refusal::SeventeenthSequence(message.len()))
     );
 }

@@ -14,6 +14,7 @@ use Rattle.wire.specs.Walk.{Step, step, Reader}
 use Rattle.wire.proofs.Outcome.{ok-same, went, passed, pass, bound, go-on}
 use Rattle.wire.proofs.Meets.{met}
 use Rattle.wire.proofs.Walk.{Advances, step-size}
+use Rattle.utf8.specs.Text.{textAt}
 use Rattle.bson_values.specs.Value.{Value, plain, embedded, scoped}
 use Rattle.bson_elements.specs.Element.{maxElements, Head, head, inside, element, sizeOf, over, elementSize}
 use Rattle.bson_values.proofs.Value.{ValueWithin, type-fits}
@@ -32,13 +33,14 @@ pub record HeadRead (xs : List ℕ) (h : Head) : Type 0 where
   pub anywhere : (at count : ℕ) → count < maxElements → head at xs count ≡ ok h
 
 pub head-read : (at : ℕ) (xs : List ℕ) (count : ℕ) (h : Head) → head at xs count ≡ ok h → HeadRead xs h
-unfolding head
+unfolding head textAt
 head-read at xs count h e =
     let n = untilZero (drop 1 xs) in
     let c = passed _ _ _ _ e in
     let rule = went _ _ (c .1) in
     let d = passed _ _ _ _ (rule .2) in
-    let value = went _ _ (d .1) in
+    let t = passed _ _ _ _ (d .1) in
+    let value = went _ _ (t .1) in
     let v = value .0 in
     let fits = met (type-fits at at (getD xs 0 0)) (rule .1) .1 in
     let is : record { start = n + 2; value = v } ≡ h = ok-same (value .2) in
@@ -48,7 +50,7 @@ head-read at xs count h e =
       value = met (fits (at + (n + 2)) 0 (drop (n + 2) xs)) (value .1) .1;
       anywhere = λ b k l.
           pass 21 b _ (lt-leb maxElements k l) ∙ go-on _ (met (type-fits at b (getD xs 0 0)) (rule .1) .0) ∙ pass 18 (b + 1) _ (d .0)
-          ∙ go-on _ (met (fits (at + (n + 2)) (b + (n + 2)) (drop (n + 2) xs)) (value .1) .0);
+          ∙ pass 27 _ _ (t .0) ∙ go-on _ (met (fits (at + (n + 2)) (b + (n + 2)) (drop (n + 2) xs)) (value .1) .0);
     })
 
 -- an element takes a byte or more

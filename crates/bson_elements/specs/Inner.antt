@@ -2,7 +2,7 @@
 -- Assumes nothing: these are definitions.
 use Prim.Native.Nat.{ℕ, _+_, _≤_}
 use Rattle.wire.specs.Outcome.{Outcome, ok, refused, _>>=_}
-use Rattle.bson_values.specs.Value.{Value, plain, embedded, scoped}
+use Rattle.bson_values.specs.Value.{Value, plain, embedded, scoped, table, ruleIn}
 use Rattle.bson_elements.specs.Element.{Head}
 use Rattle.bson_elements.specs.declared.Outline.{Outline}
 
@@ -22,3 +22,7 @@ OutlineWithin n (Outline.Refused number place) = Unit {0}
 -- the same element by where its value starts, and what that is
 abbrev pub begins : (start : ℕ) → Outcome Value → Outcome Head
 begins start o = o >>= λ value. ok (record { start = start; value = value })
+
+-- one of a type t whose name is refused
+abbrev pub unnamed : (t at number place : ℕ) → Outcome Head
+unnamed t at number place = ruleIn table at t >>= λ _. refused number place

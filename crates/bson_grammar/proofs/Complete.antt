@@ -12,13 +12,15 @@ use Rattle.wire.specs.Walk.{step, Reader, walk}
 use Rattle.wire.proofs.Outcome.{bound, go-on, check-ltb, check-leb, check-eqb, check-under}
 use Rattle.wire.proofs.Bytes.{word-le32}
 use Rattle.wire.proofs.Walk.{walk-done, walk-step}
+use Rattle.utf8.proofs.Checks.{check-text}
 use Rattle.bson_values.specs.Value.{sized, boolean, string, binary, regex, pointer, codeWithScope, bytes, embedded, scoped, Rule, table, ruleIn}
 use Rattle.bson_elements.specs.Element.{inside, head, element, maxElements}
 use Rattle.bson.specs.Document.{documentAt}
 use Rattle.bson_grammar.specs.Grammar.{_∈_, String, Plain, Document, Elements, Element, Value}
 use Rattle.bson.proofs.Frame.{frame-is}
 use Rattle.bson_grammar.proofs.Texts.{joined, until-ended, string-long, document-long, element-long}
-use Rattle.bson_grammar.proofs.Rows.{Takes, sized-complete, boolean-complete, string-complete, binary-complete, regex-complete, pointer-complete, Each, done, _&_, each}
+use Rattle.bson_grammar.proofs.Rows.{Takes, sized-complete, boolean-complete, string-complete, binary-complete, old-binary-complete, regex-complete, pointer-complete}
+use Rattle.bson_grammar.proofs.Rows.{Each, done, _&_, each}
 
 -- whatever is a D is read, and what follows it is not looked at
 abbrev Complete : (List ℕ → ℕ → Type 0) → Reader ℕ → Type 0
@@ -58,8 +60,9 @@ module _ (document : Reader ℕ) where
   plain-complete (Plain.twelve m h) = sized-reads 12 m ((λ at. refl) & done) h
   plain-complete (Plain.boolean m h) = plain-reads boolean m ((λ at. refl) & done) (boolean-complete h)
   plain-complete (Plain.nothing m h) = sized-reads 0 m ((λ at. refl) & (λ at. refl) & (λ at. refl) & (λ at. refl) & done) h
-  plain-complete (Plain.string m s) = plain-reads string m ((λ at. refl) & (λ at. refl) & (λ at. refl) & done) (string-complete s)
-  plain-complete (Plain.binary subtype xs m h) = plain-reads binary m ((λ at. refl) & done) (binary-complete subtype xs h)
+  plain-complete (Plain.string m s) = plain-reads (λ v. string v v) m ((λ at. refl) & (λ at. refl) & (λ at. refl) & done) (λ v. string-complete s v v)
+  plain-complete (Plain.binary subtype xs m other h) = plain-reads binary m ((λ at. refl) & done) (binary-complete subtype xs other h)
+  plain-complete (Plain.oldBinary xs m h) = plain-reads binary m ((λ at. refl) & done) (old-binary-complete xs h)
   plain-complete (Plain.regex m p q) = plain-reads regex m ((λ at. refl) & done) (regex-complete p q)
   plain-complete (Plain.pointer ys m s h) = plain-reads pointer m ((λ at. refl) & done) (pointer-complete ys s h)
 
@@ -100,7 +103,7 @@ module _ (k : ℕ) (document : Reader ℕ) (complete : Complete (Document k) doc
             check-under _ _ _ _ _ (word whole) .1 (
               omega arith,
               omega arith,
-              check-ltb _ _ _ _ (length whole) (word whole) .1 (omega arith, go-on _ (rw body (string-complete s v ys))),
+              check-ltb _ _ _ _ (length whole) (word whole) .1 (omega arith, go-on _ (rw body (string-complete s (v + 4) v ys))),
             ),
           ) in
           go-on _ code
@@ -117,7 +120,7 @@ module _ (k : ℕ) (document : Reader ℕ) (complete : Complete (Document k) doc
   element-complete at es rest count held (Element.element {t} {n} {name} {xs} text value) h =
       let whole : List ℕ = t ∷ name ++ xs ++ rest in
       let u : ℕ = untilZero (drop 1 whole) in
-      let named : suc u ≡ length name = ap (λ (l : List ℕ). suc (untilZero l)) (append-assoc name xs rest) ∙ until-ended (xs ++ rest) text in
+      let named = rw (← append-assoc name xs rest) at (until-ended (xs ++ rest) text) in
       let long = length-append (name ++ xs) rest in
       let both = length-append name xs in
       let after : drop (u + 2) whole ≡ xs ++ rest
@@ -127,7 +130,11 @@ module _ (k : ℕ) (document : Reader ℕ) (complete : Complete (Document k) doc
       let headed : head at whole count ≡ ok (record { start = u + 2; value = w }) =
       check-leb _ _ _ _ maxElements count .1 (
         omega arith,
-        go-on _ (r .found at) ∙ check-leb _ _ _ _ (length whole) (1 + u) .1 (omega arith, go-on _ (rw (← after) at ew)),
+        go-on _ (r .found at)
+            ∙ check-leb _ _ _ _ (length whole) (1 + u) .1 (
+              omega arith,
+              check-text _ _ (at + 1) (take u (drop 1 whole)) .1 (named .1, go-on _ (rw (← after) at ew)),
+            ),
       ) in
       go-on _ headed ∙ go-on _ (rw (← after) at fw) ∙ same-step (omega arith) (omega arith)
 

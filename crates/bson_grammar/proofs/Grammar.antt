@@ -10,6 +10,9 @@ use Rattle.wire.specs.Outcome.{ok}
 use Rattle.wire.specs.Bytes.{Bytes, le32, untilZero}
 use Rattle.wire.specs.Walk.{Step, step}
 use Rattle.wire.proofs.Outcome.{ok-same}
+use Rattle.utf8.specs.Utf8.{forms}
+use Rattle.utf8.specs.Text.{starts, characterOf, charactersOf, wellFormed}
+use Rattle.utf8.proofs.Longest.{text-is-utf8}
 use Rattle.bson_elements.specs.Element.{maxElements}
 use Rattle.bson.specs.Document.{documentAt, maxLevels}
 use Rattle.bson_grammar.specs.Grammar.{Plain, Document, Elements, Element, Value}
@@ -48,8 +51,9 @@ unambiguous {k} {m} {n} {xs} {ys} a b d e hd he same =
 
 -- the body of document 01's PING
 ping : Document 1 (0x0F ∷ 0 ∷ 0 ∷ 0 ∷ 0x10 ∷ 0x70 ∷ 0x69 ∷ 0x6E ∷ 0x67 ∷ 0 ∷ 1 ∷ 0 ∷ 0 ∷ 0 ∷ 0 ∷ []) 1
-unfolding le32 untilZero
+unfolding le32 untilZero forms starts characterOf charactersOf wellFormed
 ping =
-    let name = zero-ended (0x70 ∷ 0x69 ∷ 0x6E ∷ 0x67 ∷ 0 ∷ []) (omega arith) in
+    let text = text-is-utf8 .whole (0x70 ∷ 0x69 ∷ 0x6E ∷ 0x67 ∷ []) .0 refl in
+    let name = zero-ended (0x70 ∷ 0x69 ∷ 0x6E ∷ 0x67 ∷ 0 ∷ []) (omega arith) text in
     let value = Plain.four {t = 0x10} {xs = 1 ∷ 0 ∷ 0 ∷ 0 ∷ []} (List·Memᴰ·head refl) refl in
     Document.document {k = 0} (Elements.more (Element.element name (Value.plain value)) Elements.none) (omega arith)

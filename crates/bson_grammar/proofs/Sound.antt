@@ -10,6 +10,7 @@ use borrow.Author.Tests.{ltb-false, leb-false, eqb-true, not-false}
 use Rattle.wire.specs.Outcome.{Outcome, ok}
 use Rattle.wire.specs.Bytes.{Bytes, word, le32, untilZero}
 use Rattle.wire.specs.Walk.{Step, step, Reader, walk}
+use Rattle.utf8.specs.Utf8.{Utf8}
 use Rattle.bson_values.specs.Value.{sized, boolean, string, binary, regex, pointer, codeWithScope, bytes, embedded, Rule, table, ruleIn}
 use Rattle.bson_values.specs.Value as Walked
 use Rattle.bson_elements.specs.Element.{inside, head, element, maxElements}
@@ -19,6 +20,7 @@ use Rattle.bson_grammar.specs.Reading.{Read}
 use Rattle.wire.proofs.Outcome.{not-ok, ok-same, bound, passed}
 use Rattle.wire.proofs.Bytes.{bytes-drop, bytes-take, le32-word, under-false}
 use Rattle.wire.proofs.Walk.{walk-done, walk-step}
+use Rattle.utf8.proofs.Checks.{check-text}
 use Rattle.bson.proofs.Frame.{Framed, frame-is}
 use Rattle.bson_grammar.proofs.Texts.{parted, zero-ended, element-long}
 use Rattle.bson_grammar.proofs.Rows.{TakesOnly, sized-sound, boolean-sound, string-sound, binary-sound, regex-sound, pointer-sound, done, _&_, found}
@@ -55,13 +57,13 @@ scoped-is m xs n j b small fits e s d =
     = ap (λ (i : ℕ). take i xs) whole ∙ rw (take-add 4 (n + j) xs, ← le32-word xs b four, take-add n j, drop-drop n 4) in
     rw bytes (rw total at (Value.scoped m s d (omega arith)))
 
-element-is : {k held : ℕ} (xs : List ℕ) (j : ℕ) → 1 + untilZero (drop 1 xs) < length xs
+element-is : {k held : ℕ} (xs : List ℕ) (j : ℕ) → 1 + untilZero (drop 1 xs) < length xs → Utf8 (take (untilZero (drop 1 xs)) (drop 1 xs))
     → Value k (getD xs 0 0) (take j (drop (untilZero (drop 1 xs) + 2) xs)) held → Element k (take (untilZero (drop 1 xs) + 2 + j) xs) (suc held)
-element-is [] j h value = absurd (omega arith)
-element-is (x ∷ xs) j h value =
+element-is [] j h u value = absurd (omega arith)
+element-is (x ∷ xs) j h u value =
     let e : untilZero xs + 2 ≡ suc (suc (untilZero xs)) = omega arith in
     let f : suc (suc (untilZero xs)) + j ≡ suc (suc (untilZero xs) + j) = omega arith in
-    rw (e, f, take-add (suc (untilZero xs)) j xs) (Element.element (zero-ended xs (omega arith)) (rw e at value))
+    rw (e, f, take-add (suc (untilZero xs)) j xs) (Element.element (zero-ended xs (omega arith) u) (rw e at value))
 
 document-is : {k held : ℕ} (xs : List ℕ) (n : ℕ) → Bytes xs → Framed xs n → Elements k (take (n - 5) (drop 4 xs)) held → Document (suc k) (take n xs) held
 document-is {k} {held} xs n b f es =
@@ -100,7 +102,7 @@ module _ (k : ℕ) (document : Reader ℕ) (sound : Sound (Document k) document)
       let z = passed _ _ _ _ fd in
       let whole : 4 + n + d .size ≡ word xs = eqb-true _ _ (not-false _ (z .0)) in
       let fits : word xs ≤ length xs = omega (arith, ltb-false) in
-      let p = string-sound v _ n (bytes-take (word xs - 4) (drop 4 xs) (bytes-drop 4 xs b)) en in
+      let p = string-sound (v + 4) v _ n (bytes-take (word xs - 4) (drop 4 xs) (bytes-drop 4 xs b)) en in
       let i = sound _ _ count d (bytes-take (word xs - (4 + n)) (drop (4 + n) xs) (bytes-drop (4 + n) xs b)) ed in
       let text = rw (take-take n (word xs - 4) (drop 4 xs) (omega arith)) at (p .1) in
       let scope = rw (take-take (d .size) (word xs - (4 + n)) (drop (4 + n) xs) (omega arith)) at (i .is) in
@@ -116,7 +118,7 @@ module _ (k : ℕ) (document : Reader ℕ) (sound : Sound (Document k) document)
       & (λ m. plain-sound (λ v. sized v 12) (sized-sound 12) (λ xs. Plain.twelve m))
       & (λ m. plain-sound boolean (boolean-sound m) (λ xs p. p))
       & (λ m. plain-sound (λ v. sized v 0) (sized-sound 0) (λ xs. Plain.nothing m))
-      & (λ m. plain-sound string string-sound (λ xs. Plain.string m))
+      & (λ m. plain-sound (λ v. string v v) (λ v. string-sound v v) (λ xs. Plain.string m))
       & (λ m. plain-sound binary (binary-sound m) (λ xs p. p))
       & (λ m. plain-sound regex (regex-sound m) (λ xs p. p))
       & (λ m. plain-sound pointer (pointer-sound m) (λ xs p. p))
@@ -131,13 +133,14 @@ module _ (k : ℕ) (document : Reader ℕ) (sound : Sound (Document k) document)
       let c = passed _ _ _ _ eh in
       bound _ _ (c .1) λ rule er fr.
       let l = passed _ _ _ _ fr in
-      bound _ _ (l .1) λ w ew fw.
-      bound _ _ (rw (← ok-same fw) at fh) λ d ed fd.
       let n : ℕ = untilZero (drop 1 xs) in
+      let u = check-text _ _ (at + 1) (take n (drop 1 xs)) .0 (l .1) in
+      bound _ _ (u .1) λ w ew fw.
+      bound _ _ (rw (← ok-same fw) at fh) λ d ed fd.
       let named : 1 + n < length xs = omega (arith, leb-false) in
       let i = value-sound at (getD xs 0 0) rule er _ _ _ w d (bytes-drop (n + 2) xs b) ew ed in
       let fits = simp length-drop at (i .fits) in
-      read (suc (i .held)) fd (omega arith) (element-is xs (d .size) named (i .is)) (omega arith) (omega (arith, leb-false))
+      read (suc (i .held)) fd (omega arith) (element-is xs (d .size) named (u .0) (i .is)) (omega arith) (omega (arith, leb-false))
 
   -- as many turns as bytes are enough: an element takes a byte or more
   elements-sound : (turns at : ℕ) (xs : List ℕ) (count total : ℕ) → walk (element document) turns at xs count ≡ ok total → Bytes xs → length xs ≤ turns

@@ -11,6 +11,7 @@ use Rattle.wire.specs.Bytes.{untilZero}
 use Rattle.wire.specs.Walk.{Step}
 use Rattle.wire.proofs.Outcome.{ok-same, went, passed}
 use Rattle.wire.proofs.Walk.{step-size}
+use Rattle.utf8.specs.Text.{textAt}
 use Rattle.bson_values.specs.Value.{Value, plain, embedded, scoped, Rule, table, ruleIn}
 use Rattle.bson_skip.specs.Inner.{span}
 use Rattle.bson_elements.specs.Element.{Head, head, inside, element, sizeOf, over, elementSize}
@@ -23,12 +24,12 @@ record HeadIs (xs : List ℕ) (h : Head) : Type 0 where
   kept : rule (0 + (untilZero (drop 1 xs) + 2)) (drop (untilZero (drop 1 xs) + 2) xs) ≡ ok (h .value)
 
 head-is : (xs : List ℕ) (h : Head) → head 0 xs 0 ≡ ok h → HeadIs xs h
-unfolding head
+unfolding head textAt
 head-is xs h e =
     let c = passed _ _ _ _ e in
     let rule = went _ _ (c .1) in
     let d = passed _ _ _ _ (rule .2) in
-    let value = went _ _ (d .1) in
+    let value = went _ _ (passed _ _ _ _ (d .1) .1) in
     let is : record { start = untilZero (drop 1 xs) + 2; value = value .0 } ≡ h = ok-same (value .2) in
     rw (← is) (record {
       rule = rule .0;

@@ -1,28 +1,33 @@
 // Elements that were read, passed over.
-use bson_values::Extent;
 use bson_values::Kind;
 use bson_values::Lookup;
 use bson_values::kind_of;
-use bson_values::regex;
+use wire::until_zero;
 use wire::word;
 ghost use mathlib.Core.Path.{_≡_};
 ghost use Prim.Native.Nat.{ℕ, _<_, _≤_};
 ghost use lib.ListN.{length, drop};
 ghost use Rattle.wire.specs.Bytes.{untilZero};
 ghost use Rattle.wire.specs.Outcome.{ok};
-ghost use Rattle.bson_values.specs.Value.{Value};
-ghost use Rattle.bson_values.specs.Inner.{extent, ruleOf};
+ghost use Rattle.bson_values.specs.Value.{Value, regex};
+ghost use Rattle.bson_values.specs.Inner.{ruleOf};
 ghost use Rattle.bson_elements.specs.Element.{elementSize};
 ghost use Rattle.bson_skip.specs.Inner.{span};
 
-// The bytes of something that keeps its rule.
-fn extent_size(e: Extent) -> usize
-    ensures { λ r. ⌜ ((v n : ℕ) → extent v e ≡ ok n → r ≡ n) ⌝ }
+// How many bytes two zero-ended strings take, where they keep their rule.
+fn pair(s: &[u8]) -> usize
+    ensures { λ r. ⌜ ((v n : ℕ) → regex v (now (s .entry)) ≡ ok n → r ≡ n) ⌝ }
 {
-    match e {
-        Extent::Takes(n) => n,
-        Extent::Broken => 0,
+    let m = until_zero(s);
+    if s.len() <= m {
+        return 0;
     }
+    let second = m + 1;
+    let n = until_zero(&s[second..]);
+    if s.len() <= second + n {
+        return 0;
+    }
+    second + n + 1
 }
 
 // How many bytes a value of some kind takes, where it keeps its rule.
@@ -34,7 +39,7 @@ fn skip(k: Kind, s: &[u8]) -> usize
         Kind::Boolean => 1,
         Kind::String => 4 + word(s) as usize,
         Kind::Binary => 5 + word(s) as usize,
-        Kind::Regex => extent_size(regex(s)),
+        Kind::Regex => pair(s),
         Kind::Pointer => 16 + word(s) as usize,
         Kind::Embedded => word(s) as usize,
         Kind::Code => word(s) as usize,

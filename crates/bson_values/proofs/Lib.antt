@@ -1,4 +1,5 @@
 pub mod Types
 pub mod Value
 pub mod Rows
-pub mod Behind
+pub mod Pairs
+pub mod Examples

@@ -1,25 +1,30 @@
 // The element table: what stands after an element's name.
+use utf8::ZeroEnded;
+use utf8::well_formed;
+use utf8::zero_ended;
 use wire::under;
-use wire::until_zero;
 use wire::word;
 ghost use mathlib.Core.Path.{_≡_};
-ghost use Prim.Native.Nat.{ℕ, _<_};
+ghost use Prim.Native.Nat.{ℕ, _+_, _-_, _^_, _<_, _≤_};
 ghost use lib.ListN.{length};
 ghost use Rattle.bson_values.specs.Value.{sized, boolean, cstring, string, binary, regex, pointer, codeWithScope, bytes, table, ruleIn};
-ghost use Rattle.bson_values.specs.Inner.{extent, ExtentWithin, shape, ShapeWithin, ruleOf, ruleFound, Unlisted};
+ghost use Rattle.bson_values.specs.Inner.{extent, ExtentWithin, shape, ShapeWithin, ruleOf, ruleFound, Unlisted, behind, miscounted};
 
-// How many bytes something takes; or it breaks its rule.
+// How many bytes something takes; or it breaks its rule; or text in it is UTF-8 up to that byte alone.
 pub enum Extent {
     Takes(usize),
     Broken,
+    IllFormed(usize),
 }
 
-// A value: bytes alone; a document; bytes of which those from `start` on are a document; or it breaks its rule.
+// A value: bytes alone; a document; bytes of which those from `start` on are a document; or it breaks its rule; or text in it is
+// UTF-8 up to that byte alone.
 pub enum Shape {
     Plain(usize),
     Embedded,
     Scoped { start: usize, size: usize },
     Faulty,
+    IllFormed(usize),
 }
 
 // The rows of the table.
@@ -95,7 +100,7 @@ pub fn kind_of(t: u8) -> Lookup
 
 // n bytes, whatever they are.
 fn sized(n: usize, s: &[u8]) -> Extent
-    ensures is { λ r. ⌜ ((v : ℕ) → extent v r ≡ sized v n (now (s .entry))) ⌝ }
+    ensures is { λ r. ⌜ ((v at : ℕ) → extent v at r ≡ sized v n (now (s .entry))) ⌝ }
     ensures inside { λ r. ⌜ ExtentWithin (length (now (s .entry))) r ⌝ }
 {
     if s.len() < n {
@@ -106,7 +111,7 @@ fn sized(n: usize, s: &[u8]) -> Extent
 
 // One byte, 0 or 1.
 fn boolean(s: &[u8]) -> Extent
-    ensures is { λ r. ⌜ ((v : ℕ) → extent v r ≡ boolean v (now (s .entry))) ⌝ }
+    ensures is { λ r. ⌜ ((v at : ℕ) → extent v at r ≡ boolean v (now (s .entry))) ⌝ }
     ensures inside { λ r. ⌜ ExtentWithin (length (now (s .entry))) r ⌝ }
 {
     if s.len() < 1 {
@@ -120,19 +125,19 @@ fn boolean(s: &[u8]) -> Extent
 
 // A zero-ended string.
 fn cstring(s: &[u8]) -> Extent
-    ensures is { λ r. ⌜ ((v : ℕ) → extent v r ≡ cstring v (now (s .entry))) ⌝ }
+    ensures is { λ r. ⌜ ((v at : ℕ) → extent v at r ≡ cstring v at (now (s .entry))) ⌝ }
     ensures inside { λ r. ⌜ ExtentWithin (length (now (s .entry))) r ⌝ }
 {
-    let n = until_zero(s);
-    if s.len() <= n {
-        return Extent::Broken;
+    match zero_ended(s) {
+        ZeroEnded::Text(n) => Extent::Takes(n + 1),
+        ZeroEnded::Unended => Extent::Broken,
+        ZeroEnded::IllFormed(n) => Extent::IllFormed(n),
     }
-    Extent::Takes(n + 1)
 }
 
 // A string: a signed length n of at least 1, then n bytes, the last zero.
 fn string(s: &[u8]) -> Extent
-    ensures is { λ r. ⌜ ((v : ℕ) → extent v r ≡ string v (now (s .entry))) ⌝ }
+    ensures is { λ r. ⌜ ((v at : ℕ) → extent v at r ≡ string v at (now (s .entry))) ⌝ }
     ensures inside { λ r. ⌜ ExtentWithin (length (now (s .entry))) r ⌝ }
 {
     if s.len() < 4 {
@@ -146,15 +151,34 @@ fn string(s: &[u8]) -> Extent
     if s.len() < 4 + n {
         return Extent::Broken;
     }
-    if s[3 + n] != 0 {
+    let last = 3 + n;
+    if s[last] != 0 {
         return Extent::Broken;
+    }
+    let text = well_formed(&s[4..last]);
+    if text < n - 1 {
+        return Extent::IllFormed(4 + text);
     }
     Extent::Takes(4 + n)
 }
 
+// Of subtype 2, the n bytes do not begin with a length that is n - 4.
+fn miscounted(s: &[u8], n: u32) -> bool
+    requires { ⌜ 5 ≤ length (now s) ⌝ }
+    ensures { λ r. ⌜ r ≡ miscounted n (now (s .entry)) ⌝ }
+{
+    if s[4] != 2 {
+        return false;
+    }
+    if n < 4 {
+        return true;
+    }
+    word(&s[5..]) != n - 4
+}
+
 // A binary: a signed length n, a subtype byte, n bytes.
 fn binary(s: &[u8]) -> Extent
-    ensures is { λ r. ⌜ ((v : ℕ) → extent v r ≡ binary v (now (s .entry))) ⌝ }
+    ensures is { λ r. ⌜ ((v at : ℕ) → extent v at r ≡ binary v (now (s .entry))) ⌝ }
     ensures inside { λ r. ⌜ ExtentWithin (length (now (s .entry))) r ⌝ }
 {
     if s.len() < 4 {
@@ -168,35 +192,47 @@ fn binary(s: &[u8]) -> Extent
     if s.len() < 5 + n {
         return Extent::Broken;
     }
+    if miscounted(s, w) {
+        return Extent::Broken;
+    }
     Extent::Takes(5 + n)
 }
 
+// Something with m bytes before it.
+fn behind(m: usize, e: Extent) -> Extent
+    requires { ⌜ ExtentWithin (2 ^ 64 - 1 - m) e ⌝ }
+    ensures is { λ r. ⌜ ((v at : ℕ) → extent v at r ≡ behind m (extent v (at + m) e)) ⌝ }
+    ensures inside { λ r. ⌜ ((n : ℕ) → ExtentWithin n e → ExtentWithin (m + n) r) ⌝ }
+{
+    match e {
+        Extent::Takes(n) => Extent::Takes(m + n),
+        Extent::Broken => Extent::Broken,
+        Extent::IllFormed(n) => Extent::IllFormed(m + n),
+    }
+}
+
 // Two zero-ended strings.
-pub fn regex(s: &[u8]) -> Extent
-    ensures is { λ r. ⌜ ((v : ℕ) → extent v r ≡ regex v (now (s .entry))) ⌝ }
+fn regex(s: &[u8]) -> Extent
+    ensures is { λ r. ⌜ ((v : ℕ) → extent v v r ≡ regex v (now (s .entry))) ⌝ }
     ensures inside { λ r. ⌜ ExtentWithin (length (now (s .entry))) r ⌝ }
 {
-    let Extent::Takes(m) = cstring(s) else {
-        return Extent::Broken;
-    };
-    let Extent::Takes(n) = cstring(&s[m..]) else {
-        return Extent::Broken;
-    };
-    Extent::Takes(m + n)
+    match cstring(s) {
+        Extent::Takes(m) => behind(m, cstring(&s[m..])),
+        Extent::Broken => Extent::Broken,
+        Extent::IllFormed(n) => Extent::IllFormed(n),
+    }
 }
 
 // A string, then 12 bytes.
 fn pointer(s: &[u8]) -> Extent
-    ensures is { λ r. ⌜ ((v : ℕ) → extent v r ≡ pointer v (now (s .entry))) ⌝ }
+    ensures is { λ r. ⌜ ((v : ℕ) → extent v v r ≡ pointer v (now (s .entry))) ⌝ }
     ensures inside { λ r. ⌜ ExtentWithin (length (now (s .entry))) r ⌝ }
 {
-    let Extent::Takes(m) = string(s) else {
-        return Extent::Broken;
-    };
-    let Extent::Takes(n) = sized(12, &s[m..]) else {
-        return Extent::Broken;
-    };
-    Extent::Takes(m + n)
+    match string(s) {
+        Extent::Takes(m) => behind(m, sized(12, &s[m..])),
+        Extent::Broken => Extent::Broken,
+        Extent::IllFormed(n) => Extent::IllFormed(n),
+    }
 }
 
 // A signed total of at least 14 counting itself, a string, and from there on a document.
@@ -215,23 +251,25 @@ fn code_with_scope(s: &[u8]) -> Shape
     if s.len() < t {
         return Shape::Faulty;
     }
-    let Extent::Takes(n) = string(&s[4..t]) else {
-        return Shape::Faulty;
-    };
-    Shape::Scoped {
-        start: 4 + n,
-        size: t,
+    match string(&s[4..t]) {
+        Extent::Takes(n) => Shape::Scoped {
+            start: 4 + n,
+            size: t,
+        },
+        Extent::Broken => Shape::Faulty,
+        Extent::IllFormed(n) => Shape::IllFormed(4 + n),
     }
 }
 
 // A value that is bytes alone.
 fn plain(e: Extent) -> Shape
-    ensures is { λ r. ⌜ ((v : ℕ) → shape v r ≡ bytes (extent v e)) ⌝ }
+    ensures is { λ r. ⌜ ((v : ℕ) → shape v r ≡ bytes (extent v v e)) ⌝ }
     ensures inside { λ r. ⌜ ((n : ℕ) → ExtentWithin n e → ShapeWithin n r) ⌝ }
 {
     match e {
         Extent::Takes(n) => Shape::Plain(n),
         Extent::Broken => Shape::Faulty,
+        Extent::IllFormed(n) => Shape::IllFormed(n),
     }
 }
 

@@ -4,6 +4,8 @@ use mathlib.Core.Path.{refl}
 use Rattle.wire.specs.Outcome.{refuse, _>>=_}
 use Rattle.wire.specs.Bytes.{word, wordAt, under, signed, untilZero, oneOf}
 use Rattle.wire.specs.Walk.{walk}
+use Rattle.utf8.specs.Utf8.{forms}
+use Rattle.utf8.specs.Text.{starts, characterOf, charactersOf, wellFormed, textAt}
 use Rattle.bson_values.specs.Value.{sized, table, ruleIn}
 use Rattle.bson_elements.specs.Element.{maxElements, head, inside, element, sizeOf, elementSize}
 use Rattle.bson.specs.Document.{maxLevels, frame, documentAt}
@@ -20,5 +22,5 @@ use Rattle.listing.specs.Next.{stepOf, next}
 use Rattle.listing.specs.Listing.{lines, listing, Example}
 
 example : Example
-unfolding _>>=_ refuse word wordAt under signed untilZero oneOf walk sized table ruleIn maxLevels maxElements frame head inside element documentAt sizeOf elementSize common kept allKnown checksummed knows maxLength checksumSize sectionsEnd sectionBytes checksumDiffers maxSequences bodyStart bodySize sequencesOf bodySection sectionOf sectionAt sameText among distinct elementNames part bodyNames identifier identifiers texts padded viewOf header flagged parts distinctNames content read digits decimal signedDecimal line firstLine messageLine badLine endLine stepOf next lines listing
+unfolding _>>=_ refuse forms starts characterOf charactersOf wellFormed textAt word wordAt under signed untilZero oneOf walk sized table ruleIn maxLevels maxElements frame head inside element documentAt sizeOf elementSize common kept allKnown checksummed knows maxLength checksumSize sectionsEnd sectionBytes checksumDiffers maxSequences bodyStart bodySize sequencesOf bodySection sectionOf sectionAt sameText among distinct elementNames part bodyNames identifier identifiers texts padded viewOf header flagged parts distinctNames content read digits decimal signedDecimal line firstLine messageLine badLine endLine stepOf next lines listing
 example = refl

@@ -8,6 +8,8 @@ use lib.ListN.{set, replicate}
 use Rattle.wire.specs.Outcome.{refuse, _>>=_}
 use Rattle.wire.specs.Bytes.{word, wordAt, under, signed, le32, untilZero, oneOf}
 use Rattle.wire.specs.Walk.{walk}
+use Rattle.utf8.specs.Utf8.{forms}
+use Rattle.utf8.specs.Text.{starts, characterOf, charactersOf, wellFormed, textAt}
 use Rattle.bson_values.specs.Value.{sized, cstring, string, binary, boolean, regex, pointer, codeWithScope, table, ruleIn}
 use Rattle.bson_elements.specs.Element.{maxElements, head, inside, element, sizeOf, elementSize}
 use Rattle.bson.specs.Document.{maxLevels, frame, documentAt}
@@ -38,5 +40,5 @@ pub three :
     (shared (first .edition) others ≡ record { bits = 0x2_0000; sequences = true })
     × (through (first ∷ others) (set ping 18 7) ≡ set ping 18 2)
     × (sent (record { bits = 0x2_0000; sequences = true }) (set ping 18 7) (replicate 50 0xBB) ≡ set ping 18 2)
-unfolding _>>=_ refuse walk word wordAt under signed untilZero oneOf sized cstring string binary boolean regex pointer codeWithScope table ruleIn maxLevels maxElements frame head inside element documentAt sizeOf elementSize common kept allKnown checksummed knows maxLength checksumSize sectionsEnd sectionBytes checksumDiffers maxSequences bodyStart bodySize sequencesOf nextDocument bodySection sequenceRun sequenceNamed sequenceSection sectionOf sectionAt sameText among distinct elementNames part bodyNames identifier identifiers texts padded viewOf header flagged parts distinctNames content read le32 checksum message output forwarded forward sent through both shared
+unfolding _>>=_ refuse walk forms starts characterOf charactersOf wellFormed textAt word wordAt under signed untilZero oneOf sized cstring string binary boolean regex pointer codeWithScope table ruleIn maxLevels maxElements frame head inside element documentAt sizeOf elementSize common kept allKnown checksummed knows maxLength checksumSize sectionsEnd sectionBytes checksumDiffers maxSequences bodyStart bodySize sequencesOf nextDocument bodySection sequenceRun sequenceNamed sequenceSection sectionOf sectionAt sameText among distinct elementNames part bodyNames identifier identifiers texts padded viewOf header flagged parts distinctNames content read le32 checksum message output forwarded forward sent through both shared
 three = (refl, refl, refl)

@@ -1,4 +1,4 @@
--- Every refusal of the four calls has a number from 1 to 25 and a place below 2 ^ 32.
+-- Every refusal of the four calls has a number from 1 to 27 but 26 and a place below 2 ^ 32.
 -- Assumes nothing.
 use Prim.Native.Nat.{ℕ, _+_}
 use mathlib.Core.List.{List}
@@ -47,7 +47,7 @@ append-bounded e s identifier documents room =
     good tt
 
 bounded : {A : Type 0} {o : Outcome A} → UpTo most o → Bounded o
-bounded m number place h = let q = missed m h in omega (arith, q .0, q .1, q .2)
+bounded m number place h = let q = missed m h in (q .0, q .1, q .2, omega (arith, q .3))
 
 pub refusals-bounded : RefusalsBounded
 refusals-bounded = record {

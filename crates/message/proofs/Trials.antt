@@ -9,6 +9,8 @@ use lib.IntN.{pos}
 use Rattle.wire.specs.Outcome.{Outcome, ok, refused, refuse, _>>=_}
 use Rattle.wire.specs.Bytes.{word, wordAt, under, signed, bits32, le32, untilZero, oneOf}
 use Rattle.wire.specs.Walk.{walk}
+use Rattle.utf8.specs.Utf8.{forms}
+use Rattle.utf8.specs.Text.{starts, characterOf, charactersOf, wellFormed, textAt}
 use Rattle.bson_values.specs.Value.{sized, cstring, string, binary, boolean, regex, pointer, codeWithScope, table, ruleIn}
 use Rattle.bson_elements.specs.Element.{maxElements, head, inside, element, sizeOf, elementSize}
 use Rattle.bson.specs.Document.{maxLevels, frame, documentAt}
@@ -92,5 +94,5 @@ trials :
     ∷ refused 24 41
     ∷ refused 23 36
     ∷ []
-unfolding _>>=_ refuse walk word wordAt under signed bits32 untilZero oneOf sized cstring string binary boolean regex pointer codeWithScope table ruleIn maxLevels maxElements frame head inside element documentAt sizeOf elementSize common kept allKnown checksummed knows maxLength checksumSize sectionsEnd sectionBytes checksumDiffers maxSequences bodyStart bodySize sequencesOf nextDocument bodySection sequenceRun sequenceNamed sequenceSection sectionOf sectionAt sameText among distinct elementNames part bodyNames identifier identifiers texts padded viewOf header flagged parts distinctNames content read le32 checksum message wholeLength forwarded forward sequenceBytes appended append
+unfolding _>>=_ refuse walk forms starts characterOf charactersOf wellFormed textAt word wordAt under signed bits32 untilZero oneOf sized cstring string binary boolean regex pointer codeWithScope table ruleIn maxLevels maxElements frame head inside element documentAt sizeOf elementSize common kept allKnown checksummed knows maxLength checksumSize sectionsEnd sectionBytes checksumDiffers maxSequences bodyStart bodySize sequencesOf nextDocument bodySection sequenceRun sequenceNamed sequenceSection sectionOf sectionAt sameText among distinct elementNames part bodyNames identifier identifiers texts padded viewOf header flagged parts distinctNames content read le32 checksum message wholeLength forwarded forward sequenceBytes appended append
 trials = refl

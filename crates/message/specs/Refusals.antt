@@ -11,9 +11,9 @@ use Rattle.message.specs.Write.{write}
 use Rattle.message.specs.Append.{append}
 use Rattle.opmsg.specs.declared.Edition.{Edition}
 
--- a refusal has one of document 01's numbers, and a place of 32 bits
+-- a refusal has one of the numbers of document 01 and its requests, which are 1 to 25 and 27, and a place of 32 bits
 abbrev pub Bounded : {A : Type 0} → Outcome A → Type 0
-Bounded o = (number place : ℕ) → o ≡ refused number place → (1 ≤ number) × (number ≤ 25) × (place < 2 ^ 32)
+Bounded o = (number place : ℕ) → o ≡ refused number place → (1 ≤ number) × (number ≤ 27) × ¬ (number ≡ 26) × (place < 2 ^ 32)
 
 -- each refusal of the four calls is such
 pub record RefusalsBounded : Type 0 where

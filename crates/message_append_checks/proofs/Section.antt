@@ -15,6 +15,7 @@ use Rattle.wire.specs.Walk.{walk}
 use Rattle.wire.proofs.Outcome.{pass, passed, same-after, assoc}
 use Rattle.wire.proofs.Bytes.{not-under, until-stop, until-go, word-le32}
 use Rattle.wire.proofs.Walk.{walk-done, walk-step}
+use Rattle.utf8.specs.Text.{textAt}
 use Rattle.opmsg.specs.Flags.{knows}
 use Rattle.opmsg.specs.Sections.{maxSequences, Section, sequence, bodyStart, bodySize, sequencesOf, Parts, Run, nextDocument, sequenceRun, sequenceNamed, sequenceSection, sectionOf, sectionAt}
 use Rattle.opmsg.specs.Names.{Name, among, distinct, part, bodyNames, identifier, identifiers, texts}
@@ -69,9 +70,16 @@ module _ (name documents : List ℕ) where
       rw (← i) (sym (drop-drop (length name + 1) 5 bytes) ∙ ap (drop (length name + 1)) behind-size ∙ drop-append-add name (0 ∷ documents) 1) in
       rw rest (take-all (size - (length name + 5)) documents (omega arith))
 
-  -- the run of its documents, at their place
+  bytes-text : take (length name) (drop 5 bytes) ≡ name
+  bytes-text = rw behind-size (take-at name (0 ∷ documents) (length name) refl)
+
+  -- its documents alone, at their place
+  abbrev documentsAt : (at elements : ℕ) → Outcome Run
+  documentsAt at elements = walk nextDocument (length documents) (at + (length name + 6)) documents (record { documents = 0; elements = elements })
+
+  -- its identifier as text, and then its documents
   abbrev pub runAt : (at elements : ℕ) → Outcome Run
-  runAt at elements = walk nextDocument (length documents) (at + (length name + 6)) documents (record { documents = 0; elements = elements })
+  runAt at elements = textAt (at + 5) name >>= λ _. documentsAt at elements
 
   -- the parts with it behind them
   abbrev pub withSection : (at : ℕ) → Parts → Run → Parts
@@ -79,7 +87,7 @@ module _ (name documents : List ℕ) where
 
   module _ (e : Edition) (at : ℕ) (p : Parts) (k : knows e 1 ≡ true) (room : length (sequencesOf (p .sections)) < maxSequences)
       (some : 0 < length name) (z : untilZero name ≡ length name) (small : size < 2 ^ 31) where
-    section-checked : sectionAt e at bytes p ≡ sequenceRun (length name) size at bytes p
+    section-checked : sectionAt e at bytes p ≡ (textAt (at + 5) name >>= λ _. sequenceRun (length name) size at bytes p)
     unfolding sectionAt sectionOf sequenceSection sequenceNamed _>>=_ refuse
     section-checked =
         rw (
@@ -94,9 +102,10 @@ module _ (name documents : List ℕ) where
           bytes-name z,
           ne-eqb (length name) 0 (λ i. omega arith),
           lt-leb (size - 4) (length name) (omega arith),
+          bytes-text,
         )
 
-    -- it is read as its documents are
+    -- it is read as its identifier and its documents are
     pub section-walked : walk (sectionAt e) (1 + size) at bytes p ≡ (runAt at (p .elements) >>= λ run. ok (withSection at p run))
     unfolding sequenceRun entry _>>=_
     section-walked =
@@ -105,7 +114,9 @@ module _ (name documents : List ℕ) where
         let end : drop (1 + size) bytes ≡ [] = drop-of-length-le bytes {i = 1 + size} (omega arith) in
         ap (λ (n : ℕ). walk (sectionAt e) n at bytes p) i ∙ walk-step (sectionAt e) size at bytes p (omega arith)
         ∙ rw (section-checked, bytes-documents, run-turns size (length documents) (at + (length name + 6)) documents (record { documents = 0; elements = p .elements }) (omega arith) (omega arith))
-        (assoc (runAt at (p .elements)) _ _ ∙ same-after (runAt at (p .elements)) _ _ (λ run g. rw end (walk-done (sectionAt e) size _ (withSection at p run))))
+        (assoc (textAt (at + 5) name) _ _
+        ∙ same-after (textAt (at + 5) name) _ _ (λ _ _. assoc (documentsAt at (p .elements)) _ _ ∙ same-after (documentsAt at (p .elements)) _ _ (λ run g. rw end (walk-done (sectionAt e) size _ (withSection at p run))))
+        ∙ sym (assoc (textAt (at + 5) name) _ _))
 
 -- ---- names
 

@@ -9,6 +9,7 @@ use lib.Dec.{ltb, leb, eqb}
 use Rattle.wire.specs.Outcome.{Outcome, ok, refuse, _>>=_, refused}
 use Rattle.wire.specs.Bytes.{untilZero}
 use Rattle.wire.specs.Walk.{walk}
+use Rattle.utf8.specs.Text.{textAt}
 use Rattle.opmsg.specs.Flags.{knows}
 use Rattle.opmsg.specs.Layout.{maxLength, sectionsEnd}
 use Rattle.opmsg.specs.Sections.{maxSequences, nextDocument}
@@ -30,6 +31,10 @@ allowed e end count identifier whole room = do
   _ ← refuse 2 0 (ltb maxLength whole)
   refuse 25 0 (ltb room whole)
 
+-- and then the identifier as text
+abbrev pub permitted : Edition → (end count : ℕ) → (identifier : List ℕ) → (whole room : ℕ) → Outcome (Unit {0})
+permitted e end count identifier whole room = allowed e end count identifier whole room >>= λ _. textAt (end + 5) identifier
+
 -- the new sequence: its kind byte is at a place, its identifier has n bytes and its documents d
 unfoldable pub entry : (at n d documents : ℕ) → Sequence
 entry at n d documents = record { name = at + 5; «name_length» = n; start = at + (n + 6); end = at + (1 + (n + 5 + d)); documents = documents }
@@ -48,11 +53,11 @@ grown v at n d documents elements = record {
   elements = elements;
 }
 
--- what is known where only names are left to check: the message is read, the checks are passed, and the documents are counted
+-- what is known where only names are left to check: the message is read, the checks are passed, the identifier is text, and the documents are counted
 pub record Ready (e : Edition) (s identifier documents : List ℕ) (v : View) (end number elements room : ℕ) : Type 0 where
   pub ended : end ≡ sectionsEnd s
   pub shown : read e s ≡ ok v
-  pub passed : allowed e end (v .«sequence_count») identifier (v .length + (length identifier + 6 + length documents)) room ≡ ok tt
+  pub passed : permitted e end (v .«sequence_count») identifier (v .length + (length identifier + 6 + length documents)) room ≡ ok tt
   pub counted : walk nextDocument (length documents) (end + (length identifier + 6)) documents (record { documents = 0; elements = v .elements })
       ≡ ok (record { documents = number; elements = elements })
 

@@ -1,7 +1,7 @@
 // What an append decides before it writes.
 mod checks;
 
-use checks::between_readings;
+use checks::before_documents;
 use opmsg::Edition;
 use opmsg::Verdict;
 use opmsg::View;
@@ -65,7 +65,7 @@ pub fn examine(
     ensures { λ r. ⌜ Examined e (now (s .entry)) v (now (identifier .entry)) (now (documents .entry)) room r ⌝ }
 {
     let end = (v.length - checksum_size(v.flags)) as usize;
-    let passed = between_readings(
+    let passed = before_documents(
         e,
         end,
         v.sequence_count,

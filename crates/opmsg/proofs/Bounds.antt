@@ -1,4 +1,4 @@
--- Where a message is refused: with a number from 1 to 25, at a place below 2 ^ 32.
+-- Where a message is refused: with a number from 1 to 27 but 26, at a place below 2 ^ 32.
 -- Assumes nothing.
 use Prim.Native.Nat.{ℕ, zero, suc, _+_, _-_, _^_, _≤_, _<_}
 use mathlib.Core.Bool.{Bool, true, false}
@@ -11,6 +11,8 @@ use Rattle.wire.specs.Outcome.{Outcome}
 use Rattle.wire.specs.Bytes.{word, untilZero}
 use Rattle.wire.specs.Walk.{Step, walk}
 use Rattle.wire.proofs.Meets.{Meets, good, knowing, other-fault, then, check, last, walk-meets}
+use Rattle.utf8.specs.Text.{wellFormed, textAt}
+use Rattle.utf8.proofs.Longest.{text-is-utf8}
 use Rattle.bson_elements.specs.Element.{elementSize}
 use Rattle.bson.specs.Document.{maxLevels}
 use Rattle.bson.proofs.Bounds.{Fault, UpTo, document-bounded}
@@ -64,7 +66,7 @@ module _ (to : ℕ) where
       good tt
 
   sequence-bounded : (at : ℕ) (xs : List ℕ) (p : Parts) → at + length xs < to → 0 < length xs → UpTo to (sequenceSection at xs p)
-  unfolding sequenceSection sequenceNamed
+  unfolding sequenceSection sequenceNamed textAt
   sequence-bounded at xs p l s =
       check 14 at _ _ (omega arith) λ _.
       check 12 (at + 1) _ _ (omega arith) λ d.
@@ -75,7 +77,11 @@ module _ (to : ℕ) where
       let n = untilZero (take (size - 4) (drop 5 xs)) in
       check 13 (at + 5) _ _ (omega arith) λ _.
       check 13 (at + 5) _ _ (omega arith) λ i.
-      run-bounded n size at xs p l (omega (arith, leb-false (size - 4) n i)) (ltb-false (length xs) (1 + size) f)
+      let named = leb-false (size - 4) n i in
+      let whole = ltb-false (length xs) (1 + size) f in
+      let name = take n (drop 5 xs) in
+      check 27 (at + 5 + wellFormed name) _ _ (omega (arith, text-is-utf8 .longest name .fits, length-take n (drop 5 xs))) λ _.
+      run-bounded n size at xs p l (omega arith) whole
 
   section-bounded : (e : Edition) (at : ℕ) (xs : List ℕ) (p : Parts) → at + length xs < to → 0 < length xs → UpTo to (sectionAt e at xs p)
   unfolding sectionAt sectionOf
@@ -96,10 +102,10 @@ module _ (to : ℕ) where
   Placed [] = Unit {0}
   Placed (n ∷ ns) = (n .place ≤ to) × Placed ns
 
-  distinct-bounded : (number : ℕ) (texts : List (List ℕ)) (ns : List Name) → 1 ≤ number → number ≤ 25 → Placed ns → UpTo to (distinct number texts ns)
+  distinct-bounded : (number : ℕ) (texts : List (List ℕ)) (ns : List Name) → 1 ≤ number → number < 26 → Placed ns → UpTo to (distinct number texts ns)
   unfolding distinct
   distinct-bounded number texts [] l m h = good tt
-  distinct-bounded number texts (n ∷ ns) l m h = check number (n .place) _ _ (l, m, h .0) λ _. distinct-bounded number (n .text ∷ texts) ns l m (h .1)
+  distinct-bounded number texts (n ∷ ns) l m h = check number (n .place) _ _ (omega (arith, h .0)) λ _. distinct-bounded number (n .text ∷ texts) ns l m (h .1)
 
   names-placed : (turns at : ℕ) (xs : List ℕ) → (0 < length xs → at + length xs < to) → Placed (elementNames turns at xs)
   names-placed zero at xs l = unfold elementNames in tt
@@ -122,7 +128,7 @@ module _ (to : ℕ) where
   body-stands (sequence place q ∷ qs) h = body-stands qs (h .1)
 
 wider : {A : Type 0} {P : A → Type 0} {o : Outcome A} (to further : ℕ) → to ≤ further → Meets P (Fault to) o → Meets P (Fault further) o
-wider to further l m = other-fault (λ number place q. omega (arith, q .0, q .1, q .2)) m
+wider to further l m = other-fault (λ number place q. (q .0, q .1, q .2, omega (arith, q .3))) m
 
 -- the names of a body stand behind its start, in no more bytes than the sections have
 names-bounded : (to end : ℕ) (xs : List ℕ) (qs : List Section) → Stand to qs → end ≤ to → UpTo (to + 5 + length xs) (distinctNames end xs qs)

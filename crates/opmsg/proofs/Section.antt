@@ -18,6 +18,7 @@ use Rattle.wire.proofs.Walk.{Steady, step-size, step-state}
 use Rattle.bson.specs.Document.{documentAt, maxLevels}
 use Rattle.bson.proofs.Frame.{document-framed}
 use Rattle.bson.proofs.Steady.{document-steady}
+use Rattle.utf8.specs.Text.{textAt}
 use Rattle.opmsg.specs.Flags.{knows}
 use Rattle.opmsg.specs.Sections.{maxSequences, Section, body, sequence, placeOf, kindOf, bodyStart, sequencesOf, Parts, nextDocument, bodySection, sequenceRun, sequenceNamed, sequenceSection, sectionOf, sectionAt}
 use Rattle.opmsg.specs.declared.Edition.{Edition}
@@ -76,7 +77,7 @@ pub record SequenceRead (at : ℕ) (xs : List ℕ) (p : Parts) (one : Step Parts
   pub added : one .state .sections ≡ p .sections ++ (sequenceAt at xs documents ∷ [])
 
 sequence-read : (at : ℕ) (xs : List ℕ) (p : Parts) (one : Step Parts) → sequenceSection at xs p ≡ ok one → SequenceRead at xs p one
-unfolding sequenceSection sequenceNamed sequenceRun
+unfolding sequenceSection sequenceNamed sequenceRun textAt
 sequence-read at xs p one h =
     let c1 = passed _ _ _ _ h in
     let c2 = passed _ _ _ _ (c1 .1) in
@@ -84,8 +85,9 @@ sequence-read at xs p one h =
     let c4 = passed _ _ _ _ (c3 .1) in
     let c5 = passed _ _ _ _ (c4 .1) in
     let c6 = passed _ _ _ _ (c5 .1) in
+    let c7 = passed _ _ _ _ (c6 .1) in
     let empty = eqb-false (nameLength xs) 0 (c5 .0) in
-    bound (walk nextDocument _ _ _ _) _ (c6 .1) λ run e f.
+    bound (walk nextDocument _ _ _ _) _ (c7 .1) λ run e f.
     record {
       room = leb-false maxSequences (length (sequencesOf (p .sections))) (c1 .0);
       least = under-false 5 (stated xs) (c3 .0) .0;
@@ -108,6 +110,7 @@ sequence-alike at xs ys p l m a =
       w,
       le-ltb (length ys) (1 + n) (a .second),
       agree-part (n - 4) 5 a (omega arith),
+      agree-part (nameLength xs) 5 a (omega arith),
       agree-part (n - (nameLength xs + 5)) (nameLength xs + 6) a (omega arith),
       le-ltb (length xs) 5 (omega (arith, a .first)),
       le-ltb (length xs) (1 + n) (a .first),

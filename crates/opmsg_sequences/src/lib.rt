@@ -2,8 +2,9 @@
 use opmsg::Sequence;
 use opmsg_documents::Counted;
 use opmsg_documents::documents;
+use utf8::ZeroEnded;
+use utf8::zero_ended;
 use wire::under;
-use wire::until_zero;
 use wire::word;
 ghost use mathlib.Core.Path.{_≡_};
 ghost use Prim.Native.Nat.{ℕ, _+_, _^_, _<_, _≤_};
@@ -76,14 +77,16 @@ fn sequence_named(xs: &[u8], at: usize, size: usize, elements: u32) -> Part
     ensures inside { λ r. ⌜ PartWithin (now (xs .entry)) r ⌝ }
 {
     let end = 1 + size;
-    let n = until_zero(&xs[5..end]);
-    if n == 0 {
-        return refused(13, at + 5);
+    match zero_ended(&xs[5..end]) {
+        ZeroEnded::Text(n) => {
+            if n == 0 {
+                return refused(13, at + 5);
+            }
+            sequence_documents(xs, at, n, size, elements)
+        }
+        ZeroEnded::Unended => refused(13, at + 5),
+        ZeroEnded::IllFormed(n) => refused(27, at + 5 + n),
     }
-    if size - 4 <= n {
-        return refused(13, at + 5);
-    }
-    sequence_documents(xs, at, n, size, elements)
 }
 
 // Kind 1; xs begins with the kind byte. `count` sequences were passed before.

@@ -27,18 +27,18 @@ use Rattle.relay_c.specs.Results.{Told, ResultsTell}
 pub answer-placed : (o : Outcome View) (r : Reading) → Bounded o → r ≡ answer o → Placed (r .verdict)
 unfolding answer
 answer-placed (ok v) r b e = rw e tt
-answer-placed (refused number place) r b e = rw e (b number place refl .2)
+answer-placed (refused number place) r b e = rw e (b number place refl .3)
 
 pub viewed-placed : (o : Outcome Written) (r : Reading) → Bounded o → r ≡ answer (viewed o) → Placed (r .verdict)
 unfolding answer viewed _>>=_
 viewed-placed (ok w) r b e = rw e tt
-viewed-placed (refused number place) r b e = rw e (b number place refl .2)
+viewed-placed (refused number place) r b e = rw e (b number place refl .3)
 
 pub decided-placed : (o : Outcome Written) (v : Verdict) → Bounded o → judged v ≡ decided o → Placed v
 unfolding decided _>>=_
 decided-placed o Accepted b d = tt
 decided-placed (ok w) (Refused number place) b d = not-ok d
-decided-placed (refused m q) (Refused number place) b d = let e : place ≡ q = cc in rw e (b m q refl .2)
+decided-placed (refused m q) (Refused number place) b d = let e : place ≡ q = cc in rw e (b m q refl .3)
 
 -- ---- what the result tells
 
@@ -46,7 +46,7 @@ decided-placed (refused m q) (Refused number place) b d = let e : place ≡ q = 
 room-bounded : {A : Type 0} (shown : ℕ) (o : Outcome A) → Bounded o → Bounded (withRoom shown o)
 unfolding withRoom _>>=_
 room-bounded {A} shown (ok a) b number place h =
-    missed {P = λ (_ : A). Unit {0}} {Q = λ n p. (1 ≤ n) × (n ≤ 25) × (p < 2 ^ 32)} (check 25 0 (ltb shown viewSize) (λ _. ok a) (omega arith) λ _. good tt) h
+    missed {P = λ (_ : A). Unit {0}} {Q = λ n p. (1 ≤ n) × (n ≤ 27) × ¬ (n ≡ 26) × (p < 2 ^ 32)} (check 25 0 (ltb shown viewSize) (λ _. ok a) (omega arith) λ _. good tt) h
 room-bounded shown (refused n p) b number place h = b number place h
 
 told : {A : Type 0} (o : Outcome A) → Bounded o → Told o
@@ -59,7 +59,7 @@ told (refused n p) b =
       halves = λ number place h.
           let e : n ≡ number = cc in
           let f : p ≡ place = cc in
-          omega (arith, q .2);
+          omega (arith, q .3);
     }
 
 pub results-tell : ResultsTell

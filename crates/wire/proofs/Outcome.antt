@@ -1,7 +1,7 @@
 -- Laws of answers: an accepted answer passed every check on its way, and checks in a row go on from each other.
 -- Assumes nothing.
 use Prim.Native.Nat.{ℕ, _^_, _≤_, _<_}
-use mathlib.Core.Bool.{Bool, true, false, not}
+use mathlib.Core.Bool.{Bool, true, false, not, _||_}
 use mathlib.Core.Path.{_≡_, refl}
 use mathlib.Core.Logic.{_↔_}
 use native.Mathlib.Omega.{arith}
@@ -53,6 +53,12 @@ pass number place f e = rw e
 pub stop : {A : Type 0} (number place : ℕ) {t : Bool} (f : Unit {0} → Outcome A) → t ≡ true → (refuse number place t >>= f) ≡ refused number place
 unfolding _>>=_ refuse
 stop number place f e = rw e
+
+-- two checks that refuse alike
+pub either : {A : Type 0} (number place : ℕ) (a b : Bool) (f : Unit {0} → Outcome A) → (refuse number place a >>= λ _. refuse number place b >>= f) ≡ (refuse number place (a || b) >>= f)
+unfolding _>>=_ refuse
+either number place true b f = refl
+either number place false b f = refl
 
 -- going on behind an answer that is known
 pub go-on : {A B : Type 0} {o : Outcome A} {a : A} (f : A → Outcome B) → o ≡ ok a → (o >>= f) ≡ f a

@@ -31,11 +31,10 @@ int main(void)
     field("documents_start", offsetof(struct relay_sequence, documents_start));
     field("documents_end", offsetof(struct relay_sequence, documents_end));
     field("documents", offsetof(struct relay_sequence, documents));
-    for (uint64_t number = 1; number <= 25; number++) {
+    for (uint64_t number = 1; number <= 28; number++) {
         uint64_t result = number << 32 | 49151;
         printf("%d at %lu: %s\n", (int)relay_number(result),
                (unsigned long)relay_place(result), relay_words(relay_number(result)));
     }
-    printf("%s\n", relay_words((enum relay_refusal)26));
     return 0;
 }

@@ -42,6 +42,12 @@ pub fn binary(subtype: u8, content: &[u8]) -> Vec<u8> {
     bytes
 }
 
+/// A binary value of subtype 02, which states its length a second time.
+pub fn old_binary(content: &[u8]) -> Vec<u8> {
+    let length = (content.len() as i32).to_le_bytes();
+    binary(2, &[&length, content].concat())
+}
+
 /// A value of type 0F.
 pub fn code_with_scope(code: &[u8], scope: &[u8]) -> Vec<u8> {
     let string = string(code);

@@ -2,11 +2,12 @@
 
 use super::message::*;
 use super::random::Random;
+use super::text::Fault;
 
 /// Damages a message in one way; with some chance the length and the checksum
 /// are then made right again, so that later checks see the damage.
 pub fn damage(random: &mut Random, bytes: &mut Vec<u8>) {
-    match random.below(12) {
+    match random.below(13) {
         0 => truncate(random, bytes),
         1 => wrong_length(random, bytes),
         2 => wrong_opcode(random, bytes),
@@ -16,6 +17,7 @@ pub fn damage(random: &mut Random, bytes: &mut Vec<u8>) {
         6..=7 => flip_bytes(random, bytes),
         8..=9 => wrong_inner_length(random, bytes),
         10 => cut_out(random, bytes),
+        11 => bad_text(random, bytes),
         _ => put_in(random, bytes),
     }
 }
@@ -155,6 +157,19 @@ fn put_in(random: &mut Random, bytes: &mut Vec<u8>) {
     };
     bytes.splice(at..at, more);
     set_length(bytes);
+    maybe_sign(random, bytes);
+}
+
+/// Writes bytes that are not UTF-8 over some others in the sections.
+fn bad_text(random: &mut Random, bytes: &mut [u8]) {
+    if bytes.len() <= 20 {
+        return;
+    }
+    let at = random.between(20, bytes.len() - 1);
+    let bad = random.pick(&Fault::ALL).bytes(random);
+    for (byte, wrong) in bytes[at..].iter_mut().zip(bad) {
+        *byte = wrong;
+    }
     maybe_sign(random, bytes);
 }
 

@@ -4,6 +4,7 @@ use super::bson::*;
 use super::message::*;
 use super::random::Random;
 use super::reference::{Edition, MAX_MESSAGE};
+use super::text::{any_string_text, any_text, faulty_text};
 
 /// How a document is made.
 #[derive(Clone, Copy)]
@@ -53,7 +54,7 @@ pub fn any_document(random: &mut Random, style: Style) -> Vec<u8> {
 fn any_name(random: &mut Random, style: Style, index: usize) -> Vec<u8> {
     if style.different {
         let length = random.below(4);
-        let mut name = random.text(length);
+        let mut name = any_text(random, length);
         name.extend(format!("-{index}").bytes());
         name
     } else {
@@ -78,28 +79,40 @@ fn any_value(random: &mut Random, style: Style, kind: u8) -> Vec<u8> {
         0x07 => random.bytes(12),
         0x08 => vec![random.below(2) as u8],
         0x02 | 0x0D | 0x0E => any_string(random),
-        0x05 => {
-            let length = random.below(12);
-            binary(random.byte(), &random.bytes(length))
-        }
+        0x05 => any_binary(random),
         0x0B => {
             let (first, second) = (random.below(4), random.below(4));
-            let texts = [random.text(first), random.text(second)];
+            let texts = [any_text(random, first), any_text(random, second)];
             [&texts[0][..], &[0], &texts[1][..], &[0]].concat()
         }
         0x0C => [any_string(random), random.bytes(12)].concat(),
         0x03 | 0x04 => inner_document(random, style),
         0x0F => {
             let length = random.below(4);
-            code_with_scope(&random.bytes(length), &inner_document(random, style))
+            let code = any_string_text(random, length);
+            code_with_scope(&code, &inner_document(random, style))
         }
         _ => Vec::new(),
     }
 }
 
 fn any_string(random: &mut Random) -> Vec<u8> {
-    let length = random.below(10);
-    string(&random.bytes(length))
+    let length = match random.below(20) {
+        0 => random.between(10, 60),
+        _ => random.below(10),
+    };
+    string(&any_string_text(random, length))
+}
+
+/// A binary of any subtype, often 02.
+fn any_binary(random: &mut Random) -> Vec<u8> {
+    let length = random.below(12);
+    let content = random.bytes(length);
+    match random.byte() {
+        2 => old_binary(&content),
+        _ if random.percent(20) => old_binary(&content),
+        subtype => binary(subtype, &content),
+    }
 }
 
 fn inner_document(random: &mut Random, style: Style) -> Vec<u8> {
@@ -127,7 +140,7 @@ fn spoil_frame(random: &mut Random, bytes: &mut [u8]) {
 
 /// An element with a fault. Some are faults at the end of a document only.
 fn faulty_element(random: &mut Random, name: &[u8]) -> Vec<u8> {
-    match random.below(9) {
+    match random.below(13) {
         0 => {
             let kind = random.pick(&[0x00, 0x14, 0x15, 0x7E, 0x80, 0xFE]);
             let length = random.below(9);
@@ -149,8 +162,72 @@ fn faulty_element(random: &mut Random, name: &[u8]) -> Vec<u8> {
         }
         5 => element(0x0B, name, random.pick(&[&b"a"[..], b"a\0b", b"", b"\0"])),
         6 | 7 => element(0x0F, name, &faulty_code_with_scope(random)),
+        8 => element(0x05, name, &faulty_old_binary(random)),
+        9..=11 => element_with_bad_text(random, name),
         _ => cut_element(random, name),
     }
+}
+
+/// An element with a text that is not UTF-8; at times what stands behind that
+/// text is wrong too, or the text's own end is missing.
+fn element_with_bad_text(random: &mut Random, name: &[u8]) -> Vec<u8> {
+    let bad = faulty_text(random);
+    let inside = [any_string_text(random, 1), bad.clone()].concat();
+    let mut bytes = match random.below(9) {
+        0 => element(random.pick(&TYPES), &bad, &EMPTY),
+        1 => any_element(random, Style::SMALL, &bad),
+        2 => element(0x02, name, &string(&inside)),
+        3 => element(0x0D, name, &string(&inside)),
+        4 => element(0x0E, name, &string(&inside)),
+        5 => element(0x0B, name, &[&bad[..], b"\0i\0"].concat()),
+        6 => element(0x0B, name, &[b"a\0", &bad[..], b"\0"].concat()),
+        7 => element(0x0C, name, &[string(&inside), random.bytes(12)].concat()),
+        _ => {
+            let scopes: [&[u8]; 4] = [&EMPTY, &EMPTY, &[4, 0, 0, 0, 0], &[5, 0, 0, 0, 0, 0]];
+            element(0x0F, name, &code_with_scope(&inside, random.pick(&scopes)))
+        }
+    };
+    if random.percent(20) {
+        bytes.truncate(bytes.len() - random.between(1, 3));
+    }
+    bytes
+}
+
+/// A document with one element whose text is not UTF-8, at any of four levels
+/// and with others beside it.
+pub fn bad_text_document(random: &mut Random) -> Vec<u8> {
+    let flat = Style {
+        depth: 1,
+        ..Style::SMALL
+    };
+    let mut bad = element_with_bad_text(random, b"bad");
+    for _ in 0..random.pick(&[0, 0, 1, 2, 3]) {
+        let kind = random.pick(&[0x03, 0x04, 0x0F]);
+        bad = element(kind, b"n", &holder(kind, &document(&bad)));
+    }
+    let before = any_document(random, flat);
+    let after = any_document(random, flat);
+    let inside = |bytes: &[u8]| bytes[4..bytes.len() - 1].to_vec();
+    document(&[inside(&before), bad, inside(&after)].concat())
+}
+
+/// A binary of subtype 02 whose own length is wrong or missing.
+fn faulty_old_binary(random: &mut Random) -> Vec<u8> {
+    let length = random.below(9);
+    let mut value = old_binary(&random.bytes(length));
+    let outer = get_u32(&value, 0);
+    match random.below(4) {
+        // No room for a length.
+        0 => {
+            let length = random.below(4);
+            value = binary(2, &random.bytes(length));
+        }
+        1 => put_u32(&mut value, 5, random.pick(&[outer, u32::MAX, 1 << 31])),
+        2 => put_u32(&mut value, 5, outer - 4 + random.between(1, 3) as u32),
+        // The outer length is wrong: more than there is, or less.
+        _ => put_u32(&mut value, 0, random.pick(&[outer + 1, outer - 1, 49_000])),
+    }
+    value
 }
 
 fn faulty_string(random: &mut Random) -> Vec<u8> {
@@ -347,7 +424,7 @@ fn any_sequence(random: &mut Random, style: Style, index: usize) -> Section {
         random.pick(&SHORT_NAMES[1..]).to_vec()
     } else {
         let length = random.below(6);
-        let mut text = random.text(length);
+        let mut text = any_text(random, length);
         text.extend(format!("+{index}").bytes());
         text
     };
@@ -434,7 +511,7 @@ fn grow(random: &mut Random, draft: &mut Draft) {
 /// checksum else right.
 pub fn faulty_draft(random: &mut Random, edition: &Edition) -> Draft {
     let mut draft = any_draft(random, edition);
-    match random.below(11) {
+    match random.below(13) {
         0 => draft.sections.retain(|s| !matches!(s, Section::Body(_))),
         1 => {
             let place = random.below(draft.sections.len() + 1);
@@ -447,7 +524,8 @@ pub fn faulty_draft(random: &mut Random, edition: &Edition) -> Draft {
         }
         3 => clash(random, &mut draft),
         4 => name_twice(random, &mut draft),
-        5 => {
+        5..=6 => bad_text(random, &mut draft),
+        7 => {
             // A fault in the seventeenth sequence, or thereabouts.
             let count = random.between(15, 17);
             draft.sections = vec![Section::Body(EMPTY.to_vec())];
@@ -473,7 +551,7 @@ pub fn faulty_draft(random: &mut Random, edition: &Edition) -> Draft {
 /// A section with a wrong kind, size or identifier.
 fn faulty_section(random: &mut Random) -> Vec<u8> {
     let mut bytes = sequence(b"id", &EMPTY);
-    match random.below(8) {
+    match random.below(12) {
         0 => bytes[0] = random.between(2, 255) as u8,
         1 => bytes = sequence(b"", &EMPTY),
         2 => {
@@ -493,6 +571,9 @@ fn faulty_section(random: &mut Random) -> Vec<u8> {
             let length = random.between(1, 5);
             bytes = sequence(b"id", &[&EMPTY[..], &random.bytes(length)].concat());
         }
+        // No UTF-8; what follows is right, or has a fault of its own.
+        7..=9 => bytes = sequence(&faulty_text(random), &EMPTY),
+        10 => bytes = sequence(&faulty_text(random), &EMPTY[..4]),
         _ => bytes = vec![1],
     }
     bytes
@@ -517,6 +598,25 @@ fn clash(random: &mut Random, draft: &mut Draft) {
     } else {
         add_to_body(draft, &element(0x0A, b"flow", b""));
     }
+}
+
+/// Puts a text that is not UTF-8 into the body or a sequence.
+fn bad_text(random: &mut Random, draft: &mut Draft) {
+    let bad = bad_text_document(random);
+    if random.percent(50) {
+        add_to_body(draft, &bad[4..bad.len() - 1]);
+        return;
+    }
+    let place = random.below(draft.sections.len() + 1);
+    let identifier = random.pick(&[&b"bad"[..], b"flow"]).to_vec();
+    let documents = [&EMPTY, &bad[..]].concat();
+    draft.sections.insert(
+        place,
+        Section::Sequence {
+            identifier,
+            documents,
+        },
+    );
 }
 
 /// Gives the body a name twice, with another element between or not.

@@ -9,6 +9,7 @@ pub mod message;
 pub mod names;
 pub mod random;
 pub mod reference;
+pub mod text;
 
 /// PING of document 01.
 pub const PING: [u8; 36] = [

@@ -1,6 +1,6 @@
 //! An independent reader, forwarder, writer and appender, written from the
-//! rules of document 01 and from nothing else. It is plain and slow on
-//! purpose: the tests hold the library against it.
+//! rules of document 01, change request 4 and RFC 3629 and from nothing else.
+//! It is plain and slow on purpose: the tests hold the library against it.
 
 use std::collections::HashSet;
 use std::ops::Range;
@@ -16,6 +16,68 @@ pub const VIEW_NUMBERS: usize = 88;
 pub struct Refused {
     pub number: u32,
     pub place: usize,
+    /// What a 27 is about, so that a test can count the kinds.
+    pub text: Option<BadText>,
+}
+
+impl Refused {
+    pub fn new(number: u32, place: usize) -> Refused {
+        Refused {
+            number,
+            place,
+            text: None,
+        }
+    }
+}
+
+/// A text that is not UTF-8.
+#[derive(Clone, Copy, Debug, PartialEq, Eq)]
+pub struct BadText {
+    pub kind: Text,
+    /// The text from the refusal's place on, as far as it goes and at most
+    /// this long; the rest is zero.
+    pub left: [u8; 4],
+    /// How many bytes of `left` are the text's.
+    pub count: usize,
+}
+
+/// Where a text stands.
+#[derive(Clone, Copy, Debug, PartialEq, Eq)]
+pub enum Text {
+    Identifier,
+    /// The name of an element of a section's document.
+    TopName,
+    /// The name of an element further inside.
+    InnerName,
+    /// Type 02.
+    String,
+    /// Type 0D.
+    Code,
+    /// Type 0E.
+    Symbol,
+    /// The first part of type 0B.
+    Pattern,
+    /// Its second part.
+    Options,
+    /// The string of type 0C.
+    Pointer,
+    /// The string of type 0F.
+    ScopedCode,
+}
+
+impl Text {
+    pub const ALL: [Text; 10] = [
+        Text::Identifier,
+        Text::TopName,
+        Text::InnerName,
+        Text::String,
+        Text::Code,
+        Text::Symbol,
+        Text::Pattern,
+        Text::Options,
+        Text::Pointer,
+        Text::ScopedCode,
+    ];
 }
 
 #[derive(Clone, Copy, Debug, PartialEq, Eq)]
@@ -67,7 +129,7 @@ impl View {
 }
 
 fn refuse<T>(number: u32, place: usize) -> Result<T, Refused> {
-    Err(Refused { number, place })
+    Err(Refused::new(number, place))
 }
 
 // ---------------------------------------------------------------- numbers
@@ -83,6 +145,42 @@ fn i32_at(bytes: &[u8], at: usize) -> i32 {
 /// The place of the first zero byte in the range.
 fn zero_in(bytes: &[u8], range: Range<usize>) -> Option<usize> {
     range.into_iter().find(|&place| bytes[place] == 0)
+}
+
+// ------------------------------------------------------------------- text
+
+/// The length of the longest beginning that is UTF-8. It takes whole
+/// characters, so none that is cut off.
+pub fn utf8_beginning(text: &[u8]) -> usize {
+    let mut at = 0;
+    while let Some(length) = character(&text[at..]) {
+        at += length;
+    }
+    at
+}
+
+/// The length of the character that the bytes start with, if there is one: the
+/// shortest form of a number up to 10FFFF that is no surrogate.
+fn character(bytes: &[u8]) -> Option<usize> {
+    let first = *bytes.first()?;
+    // One byte starts with a 0; else the first has as many ones as there are
+    // bytes, and each further one starts with 10.
+    let (length, least) = match first.leading_ones() {
+        0 => (1, 0),
+        2 => (2, 0x80),
+        3 => (3, 0x800),
+        4 => (4, 0x1_0000),
+        _ => return None,
+    };
+    let mut number = u32::from(first) & (0x7F >> first.leading_ones());
+    for &byte in bytes.get(1..length)? {
+        if byte.leading_ones() != 1 {
+            return None;
+        }
+        number = number * 64 + u32::from(byte % 64);
+    }
+    let surrogate = (0xD800..=0xDFFF).contains(&number);
+    (number >= least && number <= 0x10_FFFF && !surrogate).then_some(length)
 }
 
 // --------------------------------------------------------------- checksum
@@ -214,7 +312,7 @@ struct Sections {
     elements: usize,
 }
 
-/// Checks 10 to 21, from left to right.
+/// Checks 10 to 21 and 27, from left to right.
 fn read_sections(edition: &Edition, message: &[u8], end: usize) -> Result<Sections, Refused> {
     let mut walk = Walk {
         message,
@@ -273,6 +371,7 @@ impl Walk<'_> {
             Some(zero) if zero > first => zero,
             _ => return refuse(13, first),
         };
+        self.text(Text::Identifier, first..zero)?;
         let mut count = 0;
         let mut next = zero + 1;
         while next < section_end {
@@ -339,6 +438,12 @@ impl Walk<'_> {
         let Some(zero) = zero_in(self.message, name_start..last) else {
             return refuse(18, name_start);
         };
+        let text = if level == 1 {
+            Text::TopName
+        } else {
+            Text::InnerName
+        };
+        self.text(text, name_start..zero)?;
         let next = self.value(kind, zero + 1, last, level)?;
         Ok((name_start..zero, next))
     }
@@ -352,12 +457,15 @@ impl Walk<'_> {
             0x07 => fixed(at, 12, last),
             0x08 => fixed(at, 1, last).filter(|_| self.message[at] <= 1),
             0x06 | 0x0A | 0x7F | 0xFF => Some(at),
-            0x02 | 0x0D | 0x0E => self.string(at, last),
+            0x02 => return self.string(Text::String, at, at, last),
+            0x0D => return self.string(Text::Code, at, at, last),
+            0x0E => return self.string(Text::Symbol, at, at, last),
             0x05 => self.binary(at, last),
-            0x0B => self.two_names(at, last),
-            0x0C => self
-                .string(at, last)
-                .and_then(|after| fixed(after, 12, last)),
+            0x0B => return self.two_texts(at, last),
+            0x0C => {
+                let after = self.string(Text::Pointer, at, at, last)?;
+                fixed(after, 12, last)
+            }
             0x03 | 0x04 => return self.document(at, last, level + 1, &mut Vec::new()),
             0x0F => return self.code_with_scope(at, last, level),
             _ => unreachable!("the type was looked up in the table"),
@@ -368,7 +476,33 @@ impl Walk<'_> {
         }
     }
 
-    fn string(&self, at: usize, limit: usize) -> Option<usize> {
+    /// Check 27 of a text without its length and ending zero.
+    fn text(&self, kind: Text, range: Range<usize>) -> Result<(), Refused> {
+        let text = &self.message[range.clone()];
+        let good = utf8_beginning(text);
+        if good == text.len() {
+            return Ok(());
+        }
+        let count = (text.len() - good).min(4);
+        let mut left = [0; 4];
+        left[..count].copy_from_slice(&text[good..good + count]);
+        let mut refused = Refused::new(27, range.start + good);
+        refused.text = Some(BadText { kind, left, count });
+        Err(refused)
+    }
+
+    /// Reads the string at `at` of the value that starts at `value`; answers
+    /// the place after it.
+    fn string(&self, kind: Text, value: usize, at: usize, limit: usize) -> Result<usize, Refused> {
+        let Some(after) = self.string_end(at, limit) else {
+            return refuse(19, value);
+        };
+        self.text(kind, at + 4..after - 1)?;
+        Ok(after)
+    }
+
+    /// The place after a string whose length and last byte are right.
+    fn string_end(&self, at: usize, limit: usize) -> Option<usize> {
         let start = fixed(at, 4, limit)?;
         let length = i32_at(self.message, at);
         if length < 1 {
@@ -384,13 +518,35 @@ impl Walk<'_> {
         if length < 0 {
             return None;
         }
-        fixed(start, length as usize, limit)
+        let after = fixed(start, length as usize, limit)?;
+        if self.message[at + 4] == 2 {
+            let content = fixed(start, 4, after)?;
+            if i64::from(i32_at(self.message, start)) != (after - content) as i64 {
+                return None;
+            }
+        }
+        Some(after)
     }
 
-    fn two_names(&self, at: usize, limit: usize) -> Option<usize> {
-        let first = zero_in(self.message, at..limit)?;
-        let second = zero_in(self.message, first + 1..limit)?;
-        Some(second + 1)
+    fn two_texts(&self, at: usize, limit: usize) -> Result<usize, Refused> {
+        let between = self.ended_text(Text::Pattern, at, at, limit)?;
+        self.ended_text(Text::Options, at, between, limit)
+    }
+
+    /// Reads the zero-ended text at `at` of the value that starts at `value`;
+    /// answers the place after its zero.
+    fn ended_text(
+        &self,
+        kind: Text,
+        value: usize,
+        at: usize,
+        limit: usize,
+    ) -> Result<usize, Refused> {
+        let Some(zero) = zero_in(self.message, at..limit) else {
+            return refuse(19, value);
+        };
+        self.text(kind, at..zero)?;
+        Ok(zero + 1)
     }
 
     fn code_with_scope(&mut self, at: usize, last: usize, level: usize) -> Result<usize, Refused> {
@@ -402,9 +558,7 @@ impl Walk<'_> {
             return refuse(19, at);
         }
         let end = at + total as usize;
-        let Some(scope) = self.string(at + 4, end) else {
-            return refuse(19, at);
-        };
+        let scope = self.string(Text::ScopedCode, at, at + 4, end)?;
         let after = self.document(scope, end, level + 1, &mut Vec::new())?;
         if after != end {
             return refuse(19, at);

@@ -1,88 +1,119 @@
--- `bson_elements::head` meets its contract: each way out has its tests, and what the type and the value are.
+-- `bson_elements::head` meets its contract: each way out has what is found of the name, and what the type and the value are.
 -- Assumes nothing.
-use borrow.Author.Needs.{needs}
+use Prim.Native.Nat.{ℕ, _+_, _-_, _^_, _<_}
+use mathlib.Core.Path.{_≡_, sym, ap, _∙_}
 use native.Mathlib.Omega.{arith}
-use borrow.Author.Tests.{le-leb, lt-leb}
-use mathlib.Core.Path.{_≡_}
-use Prim.Native.Nat.{_+_, _-_}
 use lib.ListN.{length, take, drop}
-use Rattle.wire.proofs.Bytes.{until-le}
+use borrow.Author.Needs.{needs}
+use borrow.Author.Tests.{le-leb}
+use Rattle.wire.proofs.Outcome.{stop, go-on, halt}
 use Rattle.wire.proofs.Parts.{rest-part}
-use Rattle.wire.specs.Outcome.{refuse, _>>=_}
-use Rattle.bson_elements.specs.Element.{head, maxElements}
-use Rattle.bson_values.proofs.Rows.{none-has, one-has}
+use Rattle.bson_values.specs.Inner.{ruleFound, ruleOf}
+use Rattle.bson_elements.specs.Element.{maxElements, head}
+use Rattle.bson_elements.specs.Inner.{begins}
+use Rattle.bson_elements.proofs.Heads.{further, text, unended, ill-formed}
 use Rattle.bson_elements.proofs.head.Statement.{statement}
 use Rattle.bson_elements.proofs.head.Tie as tie
 
-returns-2 : tie.Need-returns-2
-unfolding head maxElements _>>=_ refuse
-returns-2 c =
-    let none = none-has _ _ (c .before .unlisted .ensures) (c .if2 .taken) (c .before .before .before .before .before .args .at) in
-    (rw (head, lt-leb _ _ (c .before .before .before .if1 .left), none), tt)
+too-many : tie.Need-returns
+unfolding head maxElements
+too-many c = (sym (stop 21 _ _ (le-leb _ _ (c .if1 .taken))), tt)
 
-add-if3 : tie.Need-add-if3
-add-if3 c =
-    let xs = c .before .before .before .before .before .before .before .args .s .now in
-    omega (arith, until-le (take (length xs - 1) (drop 1 xs)), c .before .until-zero-arg .given .2)
+-- another element is allowed
+few : (c : tie.Else1) → c .before .before .args .count < maxElements
+unfolding maxElements
+few c = c .if1 .left
 
-returns-3 : tie.Need-returns-3
-unfolding head maxElements _>>=_ refuse
-returns-3 c =
-    let u = c .before in
-    let xs = u .before .before .before .before .before .before .before .args .s .now in
-    let at = u .before .before .before .before .before .before .before .args .at in
-    let one = one-has _ _ (u .before .before .before .unlisted .ensures) (u .before .before .if2 .left) at in
-    (rw (head, lt-leb _ _ (u .before .before .before .before .before .if1 .left), one .1, ← rest-part 1 xs, ← u .until-zero .ensures, le-leb _ _ (c .if3 .taken)), tt)
+-- the name has n bytes
+fits : (c : tie.After-known-told) → c .before .n .given .0 .0 + 1 < length (c .before .before .before .before .before .before .before .before .args .s .now)
+fits c =
+    let z = c .before .before .before in
+    let f = z .before .before .before in
+    let a = f .before .before .args in
+    text (a .at) (a .s .now) (a .count) (few f) _ (z .zero-ended .ensures) _ (c .before .n .given .1) .0
 
-returns-4 : tie.Need-returns-4
-unfolding head maxElements _>>=_ refuse
-returns-4 c =
-    let b = c .before .before in
-    let u = b .before .before in
-    (rw (head, lt-leb _ _ (u .before .before .before .before .before .if1 .left), ← b .kind-of .ensures (u .before .before .before .before .before .before .before .args .at), c .enum-told .given .1), tt)
-
-returns-5 : tie.Need-returns-5
-unfolding head maxElements _>>=_ refuse
-returns-5 c =
-    let k = c .before .before .before .before in
-    let b = k .before .before in
-    let u = b .before .before in
-    let f = u .before .before .before .before .before in
-    let xs = f .before .before .args .s .now in
+unlisted : tie.Need-returns-2
+unlisted c =
+    let k = c .before .before in
+    let n = k .before .before in
+    let z = n .before .before in
+    let f = z .before .before .before in
     let at = f .before .before .args .at in
-    let start = u .until-zero .result + 2 in
-    let value = c .before .value-of .ensures in
-    let rest : start + length (take (length xs - start) (drop start xs)) ≡ length xs = omega (arith, c .before .before .value-of-arg .given .2) in (
-      rw (head, lt-leb _ _ (f .if1 .left), ← b .kind-of .ensures at, k .kind .given .1, ← rest-part 1 xs, ← u .until-zero .ensures, lt-leb _ _ (b .before .if3 .left), ← rest-part start xs, ← value .0 (at + start))
-          (c .outline-of .ensures .0),
-      rw rest at (c .outline-of .ensures .1 _ (omega arith) (value .1)),
+    (sym (text _ _ _ (few f) _ (z .zero-ended .ensures) _ (n .n .given .1) .1 ∙ halt _ (sym (k .kind-of .ensures at) ∙ ap (ruleFound at) (c .enum-told .given .1))), tt)
+
+-- what is left behind the name
+rest : (c : tie.After-value-of) →
+    let n = c .before .before .before .before .before .before .before in
+    let xs = n .before .before .before .before .before .before .before .args .s .now in
+    let start = n .n .given .0 .0 + 2 in
+    start + length (take (length xs - start) (drop start xs)) ≡ length xs
+rest c = omega (arith, c .before .value-of-arg .given .2, fits (c .before .before .before .before .before .before))
+
+room : tie.Need-outline-of-requires
+room c κs = further (c .value-of .result) _ _ (omega (arith, rest c)) (c .value-of .ensures .1)
+
+valued : tie.Need-returns-3
+valued c =
+    let v = c .before in
+    let j = v .before .before .before in
+    let k = j .before .before in
+    let n = k .before .before in
+    let z = n .before .before in
+    let f = z .before .before .before in
+    let a = f .before .before .args in
+    let xs = a .s .now in
+    let start = n .n .given .0 .0 + 2 in
+    let kind = j .kind .given .0 .0 in
+    let is = sym (k .kind-of .ensures (a .at)) ∙ ap (ruleFound (a .at)) (j .kind .given .1) in (
+      c .outline-of .ensures .0 ∙ ap (begins start) (v .value-of .ensures .0 (a .at + start) ∙ ap (ruleOf kind (a .at + start)) (rest-part start xs))
+          ∙ sym (text _ _ _ (few f) _ (z .zero-ended .ensures) _ (n .n .given .1) .1 ∙ go-on _ is),
+      rw (rest v) at (c .outline-of .ensures .1 _ (omega arith) (v .value-of .ensures .1)),
     )
 
+without-zero : tie.Need-returns-4
+without-zero c =
+    let z = c .before .before .before in
+    (c .unnamed .ensures .0 ∙ sym (unended _ _ _ (few (z .before .before .before)) _ (z .zero-ended .ensures) (c .before .enum-told2 .given .1)), c .unnamed .ensures .1 _)
+
+no-text : tie.Need-returns-5
+no-text c =
+    let n = c .before .before in
+    let z = n .before .before in
+    (c .unnamed2 .ensures .0 ∙ sym (ill-formed _ _ _ (few (z .before .before .before)) _ (z .zero-ended .ensures) _ (n .n2 .given .1) .1), c .unnamed2 .ensures .1 _)
+
 pub head-spec : {M : Type 1} → statement M
-unfolding head maxElements _>>=_ refuse
 head-spec =
     tie.close
     (tie.spec
-    (λ c. (rw (head, le-leb _ _ (c .if1 .taken)), tt))
-    (λ c. search needs)
-    (λ c κs. search needs)
-    returns-2
-    (λ c. search needs)
-    (λ c. search needs)
-    (λ c. search needs)
-    (λ c κs. search needs)
-    add-if3
-    (λ c. search needs)
-    returns-3
-    (λ c. search needs)
-    (λ c κs. search needs)
-    (λ c. search needs)
-    (λ c. search needs)
-    returns-4
+    too-many
     (λ c. search needs)
     (λ c. search needs)
     (λ c. search needs)
     (λ c. search needs)
     (λ c κs. search needs)
+    (λ c. search needs)
+    (λ c. omega (arith, fits c))
     (λ c κs. search needs)
-    returns-5)
+    (λ c. search needs)
+    (λ c. search needs)
+    unlisted
+    (λ c. omega (arith, fits (c .before .before .before .before)))
+    (λ c. omega (arith, fits (c .before .before .before .before)))
+    (λ c. omega (arith, fits (c .before .before .before .before)))
+    (λ c. search needs)
+    (λ c κs. search needs)
+    room
+    (λ c. search needs)
+    (λ c. search needs)
+    (λ c κs. search needs)
+    (λ c. search needs)
+    (λ c. search needs)
+    (λ c.
+    let z = c .before .before .before in
+    let f = z .before .before .before in
+    let a = f .before .before .args in
+    omega (arith, ill-formed (a .at) (a .s .now) (a .count) (few f) _ (z .zero-ended .ensures) _ (c .before .n2 .given .1) .0))
+    (λ c κs. search needs)
+    valued
+    without-zero
+    no-text)

@@ -15,13 +15,13 @@ returns-2 : tie.Need-returns-2
 returns-2 c = λ v x h. bytes-is _ 1 _ x (λ n e. boolean-is v _ n e) (rw (c .enum-told .given .1) at h)
 
 returns-3 : tie.Need-returns-3
-returns-3 c = λ v x h. ap (λ (w : ℕ). 4 + w) (c .word .ensures) ∙ bytes-is _ _ _ x (λ n e. string-is v _ n e) (rw (c .before .enum-told2 .given .1) at h)
+returns-3 c = λ v x h. ap (λ (w : ℕ). 4 + w) (c .word .ensures) ∙ bytes-is _ _ _ x (λ n e. string-is v v _ n e) (rw (c .before .enum-told2 .given .1) at h)
 
 returns-4 : tie.Need-returns-4
 returns-4 c = λ v x h. ap (λ (w : ℕ). 5 + w) (c .word2 .ensures) ∙ bytes-is _ _ _ x (λ n e. binary-is v _ n e) (rw (c .before .enum-told3 .given .1) at h)
 
 returns-5 : tie.Need-returns-5
-returns-5 c = λ v x h. bytes-is _ _ _ x (λ n e. c .extent-size .ensures v n (c .before .regex .ensures .0 v ∙ e)) (rw (c .before .before .enum-told4 .given .1) at h)
+returns-5 c = λ v x h. bytes-is _ _ _ x (λ n e. c .pair .ensures v n e) (rw (c .before .enum-told4 .given .1) at h)
 
 returns-6 : tie.Need-returns-6
 returns-6 c = λ v x h. ap (λ (w : ℕ). 16 + w) (c .word3 .ensures) ∙ bytes-is _ _ _ x (λ n e. pointer-is v _ n e) (rw (c .before .enum-told5 .given .1) at h)
@@ -47,7 +47,6 @@ skip-spec =
     (λ c. search needs)
     (λ c. search needs)
     (λ c. search needs)
-    (λ c κs. search needs)
     (λ c κs. search needs)
     (λ c. search needs)
     (λ c κs. search needs)

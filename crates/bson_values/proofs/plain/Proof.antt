@@ -12,5 +12,7 @@ plain-spec =
     (tie.spec
     (λ c. search needs)
     (λ c. search needs)
-    (λ c. (λ v. rw (c .before .e .given .1), λ n h. rw (c .before .e .given .1) at h))
-    (λ c. (λ v. rw (c .enum-told .given .1), λ n h. tt)))
+    (λ c. search needs)
+    (λ c. let e = c .before .e .given .1 in (λ v. rw e, λ n h. rw e at h))
+    (λ c. (λ v. rw (c .enum-told .given .1), λ n h. tt))
+    (λ c. let e = c .before .e2 .given .1 in (λ v. rw e, λ n h. rw e at h)))

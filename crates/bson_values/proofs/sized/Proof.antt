@@ -11,5 +11,5 @@ unfolding sized _>>=_ refuse
 sized-spec =
     tie.close
     (tie.spec
-    (λ c. (λ v. rw (sized, lt-ltb _ _ (c .if1 .taken)), tt))
-    (λ c. (λ v. rw (sized, le-ltb _ _ (c .if1 .left)), c .if1 .left)))
+    (λ c. (λ v at. rw (sized, lt-ltb _ _ (c .if1 .taken)), tt))
+    (λ c. (λ v at. rw (sized, le-ltb _ _ (c .if1 .left)), c .if1 .left)))

@@ -12,7 +12,7 @@ use Rattle.opmsg.proofs.Limits.{maxLength-small}
 use Rattle.opmsg_documents.specs.Inner.{toldRun}
 use Rattle.message_append_checks.specs.Inner.{Ready}
 use Rattle.message_append_checks.proofs.Appending.{allows}
-use Rattle.message_append_checks.proofs.Answers.{checksum-within, checks-refuse, documents-refuse, documents-ready, ready-allowed, ready-low, ready-inside, ready-filled, ready-body, ready-taken, ready-grown}
+use Rattle.message_append_checks.proofs.Answers.{checksum-within, permits, before-refuse, documents-refuse, documents-ready, ready-allowed, ready-low, ready-inside, ready-filled, ready-body, ready-taken, ready-grown}
 use Rattle.message_append_checks.proofs.examine.Statement.{statement}
 use Rattle.message_append_checks.proofs.examine.Tie as tie
 
@@ -21,10 +21,10 @@ returns c =
     let p3 = c .before .before .before in
     let p5 = p3 .before .before in
     let p9 = p5 .before .before .before .before in
-    checks-refuse _ _ _ (p9 .pre) _ (p5 .checksum-size .ensures) (p9 .args .identifier .now) (p9 .args .documents .now) (p9 .args .room) (sym (p3 .between-readings .ensures) ∙ ap judged (c .before .passed .given .1))
+    before-refuse _ _ _ (p9 .pre) _ (p5 .checksum-size .ensures) (p9 .args .identifier .now) (p9 .args .documents .now) (p9 .args .room) (sym (p3 .before-documents .ensures) ∙ ap judged (c .before .passed .given .1))
 
 limit : (c : tie.After-enum-told) → let a = c .before .before .before .before .before .before .before .before .args in a .v .length + (length (a .identifier .now) + 6 + length (a .documents .now)) ≤ maxLength
-limit c = allows _ _ _ _ _ _ (sym (c .before .before .between-readings .ensures) ∙ ap judged (c .enum-told .given .1)) .limit
+limit c = allows _ _ _ _ _ _ (permits _ _ _ _ _ _ (sym (c .before .before .before-documents .ensures) ∙ ap judged (c .enum-told .given .1)) .0) .limit
 
 -- the checks are passed and the documents are counted: only names are left to check
 ready : (q : tie.After-number) →
@@ -39,7 +39,7 @@ ready q =
     let m = k .before .before in
     let a = m .before .before .before .before in
     documents-ready _ _ _ (a .pre) _ (m .checksum-size .ensures) (a .args .identifier .now) (a .args .documents .now) (a .args .room)
-    (sym (k .between-readings .ensures) ∙ ap judged (t .enum-told .given .1)) (sym (d .documents .ensures _ (omega arith)) ∙ ap toldRun (q .number .given .1))
+    (sym (k .before-documents .ensures) ∙ ap judged (t .enum-told .given .1)) (sym (d .documents .ensures _ (omega arith)) ∙ ap toldRun (q .number .given .1))
 
 repeated-requires : tie.Need-repeated-requires
 unfolding maxSequences
@@ -63,7 +63,7 @@ returns-4 c =
     let p8 = p6 .before .before in
     let p12 = p8 .before .before .before .before in
     documents-refuse _ _ _ (p12 .pre) _ (p8 .checksum-size .ensures) (p12 .args .identifier .now) (p12 .args .documents .now) (p12 .args .room)
-    (sym (p6 .between-readings .ensures) ∙ ap judged (p4 .enum-told .given .1)) (sym (p3 .documents .ensures _ (omega arith)) ∙ ap toldRun (c .before .number2 .given .1))
+    (sym (p6 .before-documents .ensures) ∙ ap judged (p4 .enum-told .given .1)) (sym (p3 .documents .ensures _ (omega arith)) ∙ ap toldRun (c .before .number2 .given .1))
 
 pub examine-spec : {M : Type 1} → statement M
 examine-spec =

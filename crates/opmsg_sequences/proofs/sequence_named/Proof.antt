@@ -1,23 +1,41 @@
--- `opmsg_sequences::sequence_named` meets its contract: each way out has its tests.
+-- `opmsg_sequences::sequence_named` meets its contract: each arm is told what is found of the identifier.
 -- Assumes nothing.
-use Prim.Native.Nat.{_+_, _-_}
-use mathlib.Core.Path.{_≡_}
+use mathlib.Core.Path.{sym, _∙_}
 use native.Mathlib.Omega.{arith}
-use lib.ListN.{take, drop}
 use borrow.Author.Needs.{needs}
-use borrow.Author.Tests.{le-leb, lt-leb, eq-eqb, ne-eqb}
-use Rattle.wire.specs.Outcome.{refuse, _>>=_}
-use Rattle.wire.specs.Bytes.{untilZero}
-use Rattle.opmsg.specs.Sections.{sequenceNamed}
+use Rattle.opmsg_sequences.proofs.Identifier.{text-inside, broken-inside, empty, text, unended, ill-formed}
 use Rattle.opmsg_sequences.proofs.sequence_named.Statement.{statement}
 use Rattle.opmsg_sequences.proofs.sequence_named.Tie as tie
 
--- the slice ends behind the section; the definition counts its bytes by the size
-name : (c : tie.After-until-zero) → let a = c .before .before .before .args in c .until-zero .result ≡ untilZero (take (a .size - 4) (drop 5 (a .xs .now)))
-name c = let n = c .before .before .before .args .size in let e : 1 + n - 5 ≡ n - 4 = omega arith in rw e at (c .until-zero .ensures)
+nothing-named : tie.Need-returns
+nothing-named c =
+    let n = c .before .before .before in
+    let z = n .before .before in
+    let a = z .before .before .before in
+    (λ p k. rw (c .refused .ensures) (sym (empty _ _ (a .pre .0) (a .pre .1) _ (z .zero-ended .ensures) (a .args .at) p _ (n .n .given .1) (c .before .if1 .taken))), rw (c .refused .ensures) tt)
+
+documents : tie.Need-returns-2
+documents c =
+    let n = c .before .before .before in
+    let z = n .before .before in
+    let a = z .before .before .before in
+    let r = c .sequence-documents .ensures in
+    (λ p k. r .0 p k ∙ sym (text _ _ (a .pre .0) (a .pre .1) _ (z .zero-ended .ensures) (a .args .at) p _ (n .n .given .1) (c .before .if1 .left)), r .1)
+
+without-zero : tie.Need-returns-3
+without-zero c =
+    let z = c .before .before .before in
+    let a = z .before .before .before in
+    (λ p k. rw (c .refused2 .ensures) (sym (unended _ _ (a .pre .0) (a .pre .1) _ (z .zero-ended .ensures) (a .args .at) p (c .before .enum-told .given .1))), rw (c .refused2 .ensures) tt)
+
+no-text : tie.Need-returns-4
+no-text c =
+    let n = c .before .before in
+    let z = n .before .before in
+    let a = z .before .before .before in
+    (λ p k. rw (c .refused3 .ensures) (sym (ill-formed _ _ (a .pre .0) (a .pre .1) _ (z .zero-ended .ensures) (a .args .at) p _ (n .n2 .given .1))), rw (c .refused3 .ensures) tt)
 
 pub sequence-named-spec : {M : Type 1} → statement M
-unfolding sequenceNamed _>>=_ refuse
 sequence-named-spec =
     tie.close
     (tie.spec
@@ -27,16 +45,24 @@ sequence-named-spec =
     (λ c. search needs)
     (λ c κs. search needs)
     (λ c. search needs)
+    (λ c. search needs)
     (λ c κs. search needs)
-    (λ c. (λ p k. rw (c .refused .ensures, sequenceNamed, ← name (c .before .before), eq-eqb _ _ (c .before .if1 .taken)), rw (c .refused .ensures) tt))
+    nothing-named
+    (λ c κs.
+    let n = c .before .before in
+    let z = n .before .before in
+    let a = z .before .before .before in
+    (text-inside _ (a .args .xs .now) (a .pre .0) (a .pre .1) _ (z .zero-ended .ensures) _ (n .n .given .1), a .pre .1, a .pre .2))
     (λ c. search needs)
     (λ c. search needs)
     (λ c κs. search needs)
+    (λ c. search needs)
+    (λ c. search needs)
     (λ c.
-    let s = c .before .before in
-    (λ p k. rw (c .refused2 .ensures, sequenceNamed, ← name (s .before), ne-eqb _ _ (s .if1 .left), le-leb _ _ (c .before .if2 .taken)), rw (c .refused2 .ensures) tt))
+    let z = c .before .before .before in
+    let a = z .before .before .before in
+    omega (arith, broken-inside _ (a .args .xs .now) (a .pre .0) (a .pre .1) _ (z .zero-ended .ensures) _ (c .before .n2 .given .1)))
     (λ c κs. search needs)
-    (λ c.
-    let s = c .before .before in
-    let r = c .sequence-documents .ensures in
-    (λ p k. rw (sequenceNamed, ← name (s .before), ne-eqb _ _ (s .if1 .left), lt-leb _ _ (c .before .if2 .left)) (r .0 p k), r .1)))
+    documents
+    without-zero
+    no-text)

@@ -20,7 +20,7 @@ refusal-requires c κs =
     let v = c .before in
     let r = v .before .before in
     let e = r .before in
-    refusals-bounded .reads (e .edition .result) (e .before .before .before .args .message .now) _ _ (answer-refused _ _ (r .read .ensures) (v .verdict .given .1)) .2
+    refusals-bounded .reads (e .edition .result) (e .before .before .before .args .message .now) _ _ (answer-refused _ _ (r .read .ensures) (v .verdict .given .1)) .3
 
 returns : tie.Need-returns
 returns c =

@@ -1,0 +1,7 @@
+pub mod Longest
+pub mod Checks
+pub mod Forms
+pub mod OneByte
+pub mod Passing
+pub mod Numbers
+pub mod Examples

@@ -1,0 +1,30 @@
+-- What the answers of the functions stand for.
+-- Assumes nothing: these are definitions.
+use Prim.Native.Nat.{ℕ, _+_, _≤_, _<_}
+use mathlib.Core.Bool.{Bool, true, false}
+use mathlib.Core.List.{List}
+use mathlib.Core.Path.{_≡_}
+use lib.ListN.{length, getD, take, drop}
+use Rattle.wire.specs.Outcome.{ok, refused}
+use Rattle.wire.specs.Bytes.{untilZero}
+use Rattle.utf8.specs.Text.{wellFormed, textAt}
+use Rattle.utf8.specs.declared.ZeroEnded.{ZeroEnded}
+
+-- the first n bytes of xs are characters of one byte; what stands past the end counts as such
+abbrev pub Ascii : (n : ℕ) → List ℕ → Type 0
+Ascii n xs = (i : ℕ) → i < n → getD xs i 0 < 0x80
+
+-- so many bytes, where a test holds
+abbrev pub counted : (n : ℕ) → Bool → ℕ
+counted n true = n
+counted n false = 0
+
+-- the first n bytes of xs are characters, and the longest well-formed beginning runs on behind them
+abbrev pub Passes : (n : ℕ) → List ℕ → Type 0
+Passes n xs = (n ≤ length xs) × (wellFormed xs ≡ n + wellFormed (drop n xs))
+
+-- what is found of text that a zero byte ends
+abbrev pub Ended : List ℕ → ZeroEnded → Type 0
+Ended xs (ZeroEnded.Text n) = (n ≡ untilZero xs) × (n < length xs) × ((at : ℕ) → textAt at (take n xs) ≡ ok tt)
+Ended xs ZeroEnded.Unended = length xs ≤ untilZero xs
+Ended xs (ZeroEnded.IllFormed n) = (untilZero xs < length xs) × (n < untilZero xs) × ((at : ℕ) → textAt at (take (untilZero xs) xs) ≡ refused 27 (at + n))

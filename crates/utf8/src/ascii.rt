@@ -1,0 +1,126 @@
+// Characters of one byte, which is below 0x80.
+use wire::word;
+ghost use mathlib.Core.Path.{_≡_};
+ghost use mathlib.Core.Bool.{true};
+ghost use Prim.Native.Nat.{_+_, _<_, _≤_};
+ghost use lib.ListN.{length, getD, drop};
+ghost use Rattle.wire.specs.Bytes.{untilZero};
+ghost use Rattle.utf8.specs.Inner.{Ascii};
+
+// The first four bytes of s are such.
+fn four(s: &[u8]) -> bool
+    ensures { λ r. ⌜ (r ≡ true → Ascii 4 (now (s .entry))) ⌝ }
+{
+    word(s) & 0x8080_8080 == 0
+}
+
+// The first eight are.
+fn eight(s: &[u8]) -> bool
+    requires { ⌜ 4 ≤ length (now s) ⌝ }
+    ensures { λ r. ⌜ (r ≡ true → Ascii 8 (now (s .entry))) ⌝ }
+{
+    if !four(s) {
+        return false;
+    }
+    four(&s[4..])
+}
+
+// A run of them, eight at a time.
+fn eights(s: &[u8]) -> usize
+    ensures inside { λ r. ⌜ r ≤ length (now (s .entry)) ⌝ }
+    ensures is { λ r. ⌜ Ascii r (now (s .entry)) ⌝ }
+{
+    let mut i = 0;
+    while 8 <= s.len() - i {
+        if !eight(&s[i..]) {
+            return i;
+        }
+        i += 8;
+    }
+    i
+}
+
+// The first sixty-four are.
+fn block(s: &[u8]) -> bool
+    requires { ⌜ 64 ≤ length (now s) ⌝ }
+    ensures { λ r. ⌜ (r ≡ true → Ascii 64 (now (s .entry))) ⌝ }
+{
+    let mut all: u8 = 0;
+    let mut k = 0;
+    while k < 64 {
+        all = all | s[k];
+        k += 1;
+    }
+    all < 0x80
+}
+
+// A run of them, sixty-four at a time.
+fn blocks(s: &[u8]) -> usize
+    ensures inside { λ r. ⌜ r ≤ length (now (s .entry)) ⌝ }
+    ensures is { λ r. ⌜ Ascii r (now (s .entry)) ⌝ }
+{
+    let mut i = 0;
+    while 64 <= s.len() - i {
+        if !block(&s[i..]) {
+            return i;
+        }
+        i += 64;
+    }
+    i
+}
+
+// A run of them, sixty-four at a time where the first thirty-two are such: most runs are short.
+fn words(s: &[u8]) -> usize
+    ensures inside { λ r. ⌜ r ≤ length (now (s .entry)) ⌝ }
+    ensures is { λ r. ⌜ Ascii r (now (s .entry)) ⌝ }
+{
+    if s.len() < 32 {
+        return eights(s);
+    }
+    let i = eights(&s[..32]);
+    if i < 32 {
+        return i;
+    }
+    let j = 32 + blocks(&s[32..]);
+    j + eights(&s[j..])
+}
+
+// A run of them, and four more behind it where they are such.
+fn fours(s: &[u8]) -> usize
+    ensures inside { λ r. ⌜ r ≤ length (now (s .entry)) ⌝ }
+    ensures is { λ r. ⌜ Ascii r (now (s .entry)) ⌝ }
+{
+    let i = words(s);
+    if s.len() - i < 4 {
+        return i;
+    }
+    if !four(&s[i..]) {
+        return i;
+    }
+    i + 4
+}
+
+// The longest run of them that s begins with.
+pub(crate) fn run(s: &[u8]) -> usize
+    ensures inside { λ r. ⌜ r ≤ length (now (s .entry)) ⌝ }
+    ensures is { λ r. ⌜ Ascii r (now (s .entry)) ⌝ }
+    ensures ends { λ r. ⌜ (r < length (now (s .entry)) → 0x80 ≤ getD (now (s .entry)) r 0) ⌝ }
+{
+    let mut i = fours(s);
+    while i < s.len() && s[i] < 0x80 {
+        i += 1;
+    }
+    i
+}
+
+// How many of them, other than zero, s begins with.
+pub(crate) fn until_zero(s: &[u8]) -> usize
+    ensures is { λ r. ⌜ Ascii r (now (s .entry)) ⌝ }
+    ensures before { λ r. ⌜ (r ≤ length (now (s .entry))) × (untilZero (now (s .entry)) ≡ r + untilZero (drop r (now (s .entry)))) ⌝ }
+{
+    let mut i = 0;
+    while i < s.len() && 0 < s[i] && s[i] < 0x80 {
+        i += 1;
+    }
+    i
+}

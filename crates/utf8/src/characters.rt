@@ -1,0 +1,189 @@
+// One character, by the table of forms: its first byte tells the form.
+ghost use mathlib.Core.Path.{_≡_};
+ghost use mathlib.Core.List.{[], _∷_};
+ghost use Prim.Native.Nat.{_<_, _≤_};
+ghost use lib.ListN.{length, getD, drop};
+ghost use Rattle.utf8.specs.Utf8.{_–_, tail, forms};
+ghost use Rattle.utf8.specs.Text.{starts, characterOf};
+ghost use Rattle.utf8.specs.Inner.{counted, Passes};
+
+// The byte at place i of s is there, and from low to high.
+fn among(s: &[u8], i: usize, low: u8, high: u8) -> bool
+    ensures { λ r. ⌜ r ≡ starts (low – high ∷ []) (drop i (now (s .entry))) ⌝ }
+{
+    if s.len() <= i {
+        return false;
+    }
+    if s[i] < low {
+        return false;
+    }
+    s[i] <= high
+}
+
+// Two bytes, if the second is a tail.
+fn two(s: &[u8]) -> usize
+    ensures { λ r. ⌜ r ≡ counted 2 (starts (tail ∷ []) (drop 1 (now (s .entry)))) ⌝ }
+{
+    if among(s, 1, 0x80, 0xBF) { 2 } else { 0 }
+}
+
+// Three bytes, if the second is from low to high and the third a tail.
+fn three(s: &[u8], low: u8, high: u8) -> usize
+    ensures { λ r. ⌜ r ≡ counted 3 (starts (low – high ∷ tail ∷ []) (drop 1 (now (s .entry)))) ⌝ }
+{
+    if !among(s, 1, low, high) {
+        return 0;
+    }
+    if among(s, 2, 0x80, 0xBF) { 3 } else { 0 }
+}
+
+// Four bytes, if the second is from low to high and the others are tails.
+fn four(s: &[u8], low: u8, high: u8) -> usize
+    ensures { λ r. ⌜ r ≡ counted 4 (starts (low – high ∷ tail ∷ tail ∷ []) (drop 1 (now (s .entry)))) ⌝ }
+{
+    if !among(s, 1, low, high) {
+        return 0;
+    }
+    if !among(s, 2, 0x80, 0xBF) {
+        return 0;
+    }
+    if among(s, 3, 0x80, 0xBF) { 4 } else { 0 }
+}
+
+// A character whose first byte is from 0xE0 to 0xEF.
+fn of_three(s: &[u8]) -> usize
+    requires { ⌜ (0 < length (now s)) × (0xE0 ≤ getD (now s) 0 0) × (getD (now s) 0 0 < 0xF0) ⌝ }
+    ensures { λ r. ⌜ r ≡ characterOf forms (now (s .entry)) ⌝ }
+{
+    let first = s[0];
+    if first == 0xE0 {
+        return three(s, 0xA0, 0xBF);
+    }
+    if first == 0xED {
+        return three(s, 0x80, 0x9F);
+    }
+    three(s, 0x80, 0xBF)
+}
+
+// A character whose first byte is at least 0xF0.
+fn of_four(s: &[u8]) -> usize
+    requires { ⌜ (0 < length (now s)) × (0xF0 ≤ getD (now s) 0 0) ⌝ }
+    ensures { λ r. ⌜ r ≡ characterOf forms (now (s .entry)) ⌝ }
+{
+    let first = s[0];
+    if first == 0xF0 {
+        return four(s, 0x90, 0xBF);
+    }
+    if first < 0xF4 {
+        return four(s, 0x80, 0xBF);
+    }
+    if first == 0xF4 {
+        return four(s, 0x80, 0x8F);
+    }
+    0
+}
+
+// A character of one byte alone, as the space between words is, before one of more; else 0.
+fn lone(s: &[u8]) -> usize
+    requires { ⌜ (2 ≤ length (now s)) × (getD (now s) 0 0 < 0x80) ⌝ }
+    ensures { λ r. ⌜ Passes r (now (s .entry)) ⌝ }
+{
+    if s[1] < 0x80 {
+        return 0;
+    }
+    1
+}
+
+// A character of two bytes, or a lone one of one byte; 0 where s begins with neither.
+fn pair(s: &[u8]) -> usize
+    requires { ⌜ 2 ≤ length (now s) ⌝ }
+    ensures { λ r. ⌜ Passes r (now (s .entry)) ⌝ }
+{
+    if s[0] < 0x80 {
+        return lone(s);
+    }
+    if s[0] < 0xC2 {
+        return 0;
+    }
+    if 0xDF < s[0] {
+        return 0;
+    }
+    two(s)
+}
+
+// A character of three bytes; 0 where s begins with none.
+fn triple(s: &[u8]) -> usize
+    requires { ⌜ 0 < length (now s) ⌝ }
+    ensures { λ r. ⌜ Passes r (now (s .entry)) ⌝ }
+{
+    if s[0] < 0xE0 {
+        return 0;
+    }
+    if 0xEF < s[0] {
+        return 0;
+    }
+    of_three(s)
+}
+
+// A run of characters of two bytes, with lone ones of one byte among them.
+fn pairs(s: &[u8]) -> usize
+    ensures { λ r. ⌜ Passes r (now (s .entry)) ⌝ }
+{
+    let mut i = 0;
+    while 2 <= s.len() - i {
+        let n = pair(&s[i..]);
+        if n == 0 {
+            return i;
+        }
+        i += n;
+    }
+    i
+}
+
+// A run of characters of three bytes.
+fn triples(s: &[u8]) -> usize
+    ensures { λ r. ⌜ Passes r (now (s .entry)) ⌝ }
+{
+    let mut i = 0;
+    while 3 <= s.len() - i {
+        let n = triple(&s[i..]);
+        if n == 0 {
+            return i;
+        }
+        i += n;
+    }
+    i
+}
+
+// A run of characters of two bytes or of three, by its first byte. A text has mostly the one or the other, and a loop that looks for no
+// others is quick.
+pub(crate) fn run(s: &[u8]) -> usize
+    requires { ⌜ 0 < length (now s) ⌝ }
+    ensures { λ r. ⌜ Passes r (now (s .entry)) ⌝ }
+{
+    if s[0] < 0xE0 {
+        return pairs(s);
+    }
+    triples(s)
+}
+
+// How many bytes the character at the start of s has; 0 where there is none.
+pub(crate) fn character(s: &[u8]) -> usize
+    requires { ⌜ 0 < length (now s) ⌝ }
+    ensures { λ r. ⌜ r ≡ characterOf forms (now (s .entry)) ⌝ }
+{
+    let first = s[0];
+    if first < 0x80 {
+        return 1;
+    }
+    if first < 0xC2 {
+        return 0;
+    }
+    if first < 0xE0 {
+        return two(s);
+    }
+    if first < 0xF0 {
+        return of_three(s);
+    }
+    of_four(s)
+}

@@ -1,0 +1,85 @@
+// Text: UTF-8 as RFC 3629 defines it.
+use wire::until_zero;
+ghost use mathlib.Core.Path.{_≡_};
+ghost use Prim.Native.Nat.{_<_};
+ghost use lib.ListN.{length};
+ghost use Rattle.utf8.specs.Text.{wellFormed};
+ghost use Rattle.utf8.specs.Inner.{Passes, Ended};
+
+mod ascii;
+mod characters;
+
+// What a zero byte ends: text of so many bytes; or there is no zero byte; or the bytes before it are UTF-8 up to that one alone.
+pub enum ZeroEnded {
+    Text(usize),
+    Unended,
+    IllFormed(usize),
+}
+
+// A run of characters of two bytes or of three, or else one character; 0 where there is none.
+fn wide(s: &[u8]) -> usize
+    requires { ⌜ 0 < length (now s) ⌝ }
+    ensures passes { λ r. ⌜ Passes r (now (s .entry)) ⌝ }
+    ensures stops { λ r. ⌜ (r ≡ 0 → wellFormed (now (s .entry)) ≡ 0) ⌝ }
+{
+    let n = characters::run(s);
+    if 0 < n {
+        return n;
+    }
+    characters::character(s)
+}
+
+// A run of characters of one byte, or else of more.
+fn step(s: &[u8]) -> usize
+    requires { ⌜ 0 < length (now s) ⌝ }
+    ensures passes { λ r. ⌜ Passes r (now (s .entry)) ⌝ }
+    ensures stops { λ r. ⌜ (r ≡ 0 → wellFormed (now (s .entry)) ≡ 0) ⌝ }
+{
+    if 0x80 <= s[0] {
+        return wide(s);
+    }
+    ascii::run(s)
+}
+
+// How many bytes the longest well-formed beginning of s has.
+pub fn well_formed(s: &[u8]) -> usize
+    ensures { λ r. ⌜ r ≡ wellFormed (now (s .entry)) ⌝ }
+{
+    let mut i = 0;
+    while i < s.len() {
+        let n = step(&s[i..]);
+        if n == 0 {
+            return i;
+        }
+        i += n;
+    }
+    i
+}
+
+// Text up to the first zero byte, whatever characters it has.
+fn searched(s: &[u8]) -> ZeroEnded
+    ensures { λ r. ⌜ Ended (now (s .entry)) r ⌝ }
+{
+    let n = until_zero(s);
+    if s.len() <= n {
+        return ZeroEnded::Unended;
+    }
+    let m = well_formed(&s[..n]);
+    if m < n {
+        return ZeroEnded::IllFormed(m);
+    }
+    ZeroEnded::Text(n)
+}
+
+// Text up to the first zero byte. Most has characters of one byte alone, and then one search tells both where it ends and that it is UTF-8.
+pub fn zero_ended(s: &[u8]) -> ZeroEnded
+    ensures { λ r. ⌜ Ended (now (s .entry)) r ⌝ }
+{
+    let n = ascii::until_zero(s);
+    if n < s.len() {
+        if s[n] == 0 {
+            return ZeroEnded::Text(n);
+        }
+    }
+    searched(s)
+}
