@@ -86,7 +86,8 @@ def some_message(r):
     flags = r.choice([0, 2, 0x10000, 0x10002, 0x20000, 0xFFFE0002])
     body = [integer(b'i%d' % k, k) for k in range(r.randint(0, 4))]
     if r.random() < 0.5:
-        body.append(nested(b'n', [string(b's', b'x' * r.randint(0, 300)), nested(b'm', [integer(b'', 1)])]))
+        text = r.choice('xß水😀') * r.randint(0, 300)
+        body.append(nested('größe'.encode(), [string(b's', text.encode()), nested(b'm', [integer(b'', 1)])]))
     names = [b'q%d' % k for k in range(r.choice([0, 0, 1, 2, 16]))]
     sequences = [(n, [[integer(b'a', 1)]] * r.randint(0, 3)) for n in names]
     return Message(request, response, flags, body, sequences, checksum=r.random() < 0.3)
@@ -223,6 +224,8 @@ def refusals(ping):
         ('no body', struct.pack('<iiiiI', 20, 1, 1, 2013, 0), (22, 20)),
         ('a type that is not in the table', edited((25, b'\x14')), (17, 25)),
         ('a document that passes the end', edited((21, word(16))), (15, 21)),
+        ('a name that is not UTF-8', edited((28, b'\xC3')), (27, 28)),
+        ('a text in a Latin code page', Message(1, 1, 0, [string(b'maker', b'M\xFCller')]).data, (27, 37)),
     ]
 
 

@@ -235,8 +235,9 @@ fn the_independent_check_is_rust_s() {
 
 // ------------------------------------------------------------- long texts
 
-/// Texts of about 70 bytes, of characters of one to four bytes.
-const LONG: [(char, usize); 4] = [('a', 70), ('ж', 35), ('水', 24), ('😀', 18)];
+/// Texts of about 70 bytes, of characters of one to four bytes; and one that
+/// has several blocks of 64.
+const LONG: [(char, usize); 5] = [('a', 70), ('a', 230), ('ж', 35), ('水', 24), ('😀', 18)];
 
 /// What is put into them: a character of each length, and faults of all kinds.
 const INSERTS: [&[u8]; 20] = [
@@ -302,6 +303,57 @@ fn a_long_text_at_every_place_of_a_word() {
             check(result, start, text, "string");
         });
     }
+}
+
+/// Runs of characters of as many bytes each, some with a lone character of
+/// another length behind them.
+fn runs(random: &mut Random) -> Vec<u8> {
+    const CHARACTERS: [char; 12] = [
+        'a',
+        ' ',
+        '\x7F',
+        'ä',
+        'ж',
+        '߿',
+        'ก',
+        '水',
+        '한',
+        '\u{FFFD}',
+        '😀',
+        '\u{10FFFF}',
+    ];
+    let mut text = String::new();
+    for _ in 0..random.between(1, 8) {
+        let length = random.pick(&[1, 2, 7, 8, 9, 31, 32, 33, 64, 95, 96, 97, 160]);
+        let character = random.pick(&CHARACTERS);
+        (0..random.between(1, length)).for_each(|_| text.push(character));
+        if random.percent(50) {
+            text.push(random.pick(&CHARACTERS));
+        }
+    }
+    text.into_bytes()
+}
+
+#[test]
+fn runs_of_characters() {
+    let random = &mut Random::new(4);
+    let mut view = [0; VIEW_NUMBERS];
+    let (mut good, mut bad) = (0, 0);
+    for _ in 0..100_000 {
+        let mut text = runs(random);
+        if random.percent(60) {
+            let place = random.below(text.len());
+            text[place] = random.pick(&EDGES);
+        }
+        let message = one_element(0x02, b"n", &string(&text));
+        let result = ffi::read(HOUSE.bits, 1, &message, &mut view);
+        check(result, 32, &text, "string");
+        match result {
+            0 => good += 1,
+            _ => bad += 1,
+        }
+    }
+    assert!(good > 30_000 && bad > 30_000, "{good} good, {bad} bad");
 }
 
 #[test]

@@ -135,7 +135,7 @@ fn cstring(s: &[u8]) -> Extent
     }
 }
 
-// A string: a signed length n of at least 1, then n bytes, the last zero.
+// A string: a signed length n of at least 1, then n bytes: text, and a zero.
 fn string(s: &[u8]) -> Extent
     ensures is { λ r. ⌜ ((v at : ℕ) → extent v at r ≡ string v at (now (s .entry))) ⌝ }
     ensures inside { λ r. ⌜ ExtentWithin (length (now (s .entry))) r ⌝ }
@@ -162,7 +162,7 @@ fn string(s: &[u8]) -> Extent
     Extent::Takes(4 + n)
 }
 
-// Of subtype 2, the n bytes do not begin with a length that is n - 4.
+// A binary of subtype 2 whose n bytes do not begin with a length that is n - 4.
 fn miscounted(s: &[u8], n: u32) -> bool
     requires { ⌜ 5 ≤ length (now s) ⌝ }
     ensures { λ r. ⌜ r ≡ miscounted n (now (s .entry)) ⌝ }

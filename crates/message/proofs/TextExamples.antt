@@ -1,7 +1,6 @@
 -- Text in messages: refusal 27 as reading gives it, and as writing and appending hand it on.
 -- Assumes nothing.
 use Prim.Native.Nat.{ℕ}
-use mathlib.Core.Bool.{true}
 use mathlib.Core.Path.{_≡_, refl}
 use mathlib.Core.List.{List, [], _∷_, _++_, map}
 use lib.ListN.{take, drop, set}
@@ -24,7 +23,6 @@ use Rattle.opmsg.specs.Read.{header, flagged, parts, distinctNames, content, re
 use Rattle.message.specs.Message.{checksum, message, wholeLength, viewed}
 use Rattle.message.specs.Write.{written, write}
 use Rattle.message.specs.Append.{sequenceBytes, appended, append}
-use Rattle.opmsg.specs.declared.Edition.{Edition}
 use Rattle.opmsg.specs.declared.View.{View}
 
 -- PING with a sequence whose identifier has two bytes, and of one document

@@ -7,8 +7,8 @@ use mathlib.Core.Logic.{_⊎_, inl, inr}
 use mathlib.Core.List.{List, [], _∷_, _++_, append-assoc, List·Memᴰ, List·Memᴰ·head, List·Memᴰ·tail, List·Memᴰ·not-nil, List·Memᴰ·cases-cons}
 use native.Mathlib.Omega.{arith}
 use lib.ListN.{length, take, drop, length-append, length-drop, take-append-drop}
-use lib.Seq.{take-add, take-length, length-take-le, drop-append-seam, take-all}
-use lib.Dec.{leb, ltb}
+use lib.Seq.{take-add, take-length, length-take-le, drop-append-seam}
+use lib.Dec.{leb}
 use borrow.Author.Tests.{leb-true, le-leb, lt-leb, le-ltb, ltb-false}
 use Rattle.wire.specs.Outcome.{refuse}
 use Rattle.wire.proofs.Outcome.{clear}

@@ -1,4 +1,4 @@
-// One character, by the table of forms: its first byte tells the form.
+// Characters by the table of forms: one, whose first byte tells its form; and runs of those of two bytes and of three.
 ghost use mathlib.Core.Path.{_≡_};
 ghost use mathlib.Core.List.{[], _∷_};
 ghost use Prim.Native.Nat.{_<_, _≤_};
@@ -83,6 +83,27 @@ fn of_four(s: &[u8]) -> usize
     0
 }
 
+// How many bytes the character at the start of s has; 0 where there is none.
+pub(crate) fn character(s: &[u8]) -> usize
+    requires { ⌜ 0 < length (now s) ⌝ }
+    ensures { λ r. ⌜ r ≡ characterOf forms (now (s .entry)) ⌝ }
+{
+    let first = s[0];
+    if first < 0x80 {
+        return 1;
+    }
+    if first < 0xC2 {
+        return 0;
+    }
+    if first < 0xE0 {
+        return two(s);
+    }
+    if first < 0xF0 {
+        return of_three(s);
+    }
+    of_four(s)
+}
+
 // A character of one byte alone, as the space between words is, before one of more; else 0.
 fn lone(s: &[u8]) -> usize
     requires { ⌜ (2 ≤ length (now s)) × (getD (now s) 0 0 < 0x80) ⌝ }
@@ -165,25 +186,4 @@ pub(crate) fn run(s: &[u8]) -> usize
         return pairs(s);
     }
     triples(s)
-}
-
-// How many bytes the character at the start of s has; 0 where there is none.
-pub(crate) fn character(s: &[u8]) -> usize
-    requires { ⌜ 0 < length (now s) ⌝ }
-    ensures { λ r. ⌜ r ≡ characterOf forms (now (s .entry)) ⌝ }
-{
-    let first = s[0];
-    if first < 0x80 {
-        return 1;
-    }
-    if first < 0xC2 {
-        return 0;
-    }
-    if first < 0xE0 {
-        return two(s);
-    }
-    if first < 0xF0 {
-        return of_three(s);
-    }
-    of_four(s)
 }

@@ -1,7 +1,6 @@
 -- `bson_values::behind` meets its contract: each arm is told which extent it is.
 -- Assumes nothing.
 use mathlib.Core.Path.{ap}
-use Prim.Native.Nat.{ℕ, _+_}
 use borrow.Author.Needs.{needs}
 use native.Mathlib.Omega.{arith}
 use Rattle.wire.specs.Outcome.{refused, _>>=_}

@@ -7,7 +7,7 @@ use lib.ListN.{length}
 use lib.Dec.{ltb}
 use borrow.Author.Needs.{needs}
 use borrow.Author.Tests.{lt-ltb, le-ltb}
-use Rattle.wire.specs.Outcome.{Outcome, ok, refuse, _>>=_}
+use Rattle.wire.specs.Outcome.{ok, refuse}
 use Rattle.wire.specs.Bytes.{word, under}
 use Rattle.wire.proofs.Outcome.{same-after, either}
 use Rattle.wire.proofs.Checks.{Check, check, row, Past, first, next, Answers, answers}
