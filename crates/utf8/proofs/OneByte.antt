@@ -24,6 +24,10 @@ ascii-then (suc m) n (x ∷ xs) a b (suc i) h = ascii-then m n xs (λ j l. a (su
 pub ascii-part : (m n : ℕ) (xs : List ℕ) → Ascii m xs → Ascii n (take (length xs - m) (drop m xs)) → Ascii (m + n) xs
 ascii-part m n xs a b = ascii-then m n xs a (rw rest-part at b)
 
+-- the first byte alone
+pub ascii-one : (xs : List ℕ) → getD xs 0 0 < 0x80 → Ascii 1 xs
+ascii-one xs h = below-more (λ i. getD xs i 0 < 0x80) 0 (below-none _) h
+
 -- a run in the front `&xs[..m]`
 pub ascii-front : (m n : ℕ) (xs : List ℕ) → n ≤ m → Ascii n (take m xs) → Ascii n xs
 ascii-front m n xs l a i h = let k : i < m = omega arith in rw getD-take at (a i h)

@@ -85,32 +85,19 @@ fn words(s: &[u8]) -> usize
     j + eights(&s[j..])
 }
 
-// A run of them, and four more behind it where they are such.
-fn fours(s: &[u8]) -> usize
-    ensures inside { λ r. ⌜ r ≤ length (now (s .entry)) ⌝ }
-    ensures is { λ r. ⌜ Ascii r (now (s .entry)) ⌝ }
-{
-    let i = words(s);
-    if s.len() - i < 4 {
-        return i;
-    }
-    if !four(&s[i..]) {
-        return i;
-    }
-    i + 4
-}
-
-// The longest run of them that s begins with.
+// Some of them, where s begins with one: that one alone, or four and the run behind them.
 pub(crate) fn run(s: &[u8]) -> usize
-    ensures inside { λ r. ⌜ r ≤ length (now (s .entry)) ⌝ }
+    requires { ⌜ (0 < length (now s)) × (getD (now s) 0 0 < 0x80) ⌝ }
+    ensures inside { λ r. ⌜ (0 < r) × (r ≤ length (now (s .entry))) ⌝ }
     ensures is { λ r. ⌜ Ascii r (now (s .entry)) ⌝ }
-    ensures ends { λ r. ⌜ (r < length (now (s .entry)) → 0x80 ≤ getD (now (s .entry)) r 0) ⌝ }
 {
-    let mut i = fours(s);
-    while i < s.len() && s[i] < 0x80 {
-        i += 1;
+    if s.len() < 4 {
+        return 1;
     }
-    i
+    if !four(s) {
+        return 1;
+    }
+    4 + words(&s[4..])
 }
 
 // How many of them, other than zero, s begins with.

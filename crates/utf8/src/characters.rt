@@ -1,4 +1,4 @@
-// Characters by the table of forms: one, whose first byte tells its form; and runs of those of two bytes and of three.
+// Characters by the table of forms: one, whose first byte tells its form; and runs of them.
 ghost use mathlib.Core.Path.{_≡_};
 ghost use mathlib.Core.List.{[], _∷_};
 ghost use Prim.Native.Nat.{_<_, _≤_};
@@ -147,7 +147,7 @@ fn triple(s: &[u8]) -> usize
 }
 
 // A run of characters of two bytes, with lone ones of one byte among them.
-fn pairs(s: &[u8]) -> usize
+pub(crate) fn pairs(s: &[u8]) -> usize
     ensures { λ r. ⌜ Passes r (now (s .entry)) ⌝ }
 {
     let mut i = 0;
@@ -162,7 +162,7 @@ fn pairs(s: &[u8]) -> usize
 }
 
 // A run of characters of three bytes.
-fn triples(s: &[u8]) -> usize
+pub(crate) fn triples(s: &[u8]) -> usize
     ensures { λ r. ⌜ Passes r (now (s .entry)) ⌝ }
 {
     let mut i = 0;
@@ -174,16 +174,4 @@ fn triples(s: &[u8]) -> usize
         i += n;
     }
     i
-}
-
-// A run of characters of two bytes or of three, by its first byte. A text has mostly the one or the other, and a loop that looks for no
-// others is quick.
-pub(crate) fn run(s: &[u8]) -> usize
-    requires { ⌜ 0 < length (now s) ⌝ }
-    ensures { λ r. ⌜ Passes r (now (s .entry)) ⌝ }
-{
-    if s[0] < 0xE0 {
-        return pairs(s);
-    }
-    triples(s)
 }

@@ -16,29 +16,23 @@ pub enum ZeroEnded {
     IllFormed(usize),
 }
 
-// A run of characters of two bytes or of three, or else one character; 0 where there is none.
-fn wide(s: &[u8]) -> usize
-    requires { ⌜ 0 < length (now s) ⌝ }
-    ensures passes { λ r. ⌜ Passes r (now (s .entry)) ⌝ }
-    ensures stops { λ r. ⌜ (r ≡ 0 → wellFormed (now (s .entry)) ≡ 0) ⌝ }
-{
-    let n = characters::run(s);
-    if 0 < n {
-        return n;
-    }
-    characters::character(s)
-}
-
-// A run of characters of one byte, or else of more.
+// Characters of one byte; or one of more, with a run of such behind it; 0 where there is none.
 fn step(s: &[u8]) -> usize
     requires { ⌜ 0 < length (now s) ⌝ }
     ensures passes { λ r. ⌜ Passes r (now (s .entry)) ⌝ }
     ensures stops { λ r. ⌜ (r ≡ 0 → wellFormed (now (s .entry)) ≡ 0) ⌝ }
 {
-    if 0x80 <= s[0] {
-        return wide(s);
+    if s[0] < 0x80 {
+        return ascii::run(s);
     }
-    ascii::run(s)
+    let n = characters::character(s);
+    if n == 2 {
+        return 2 + characters::pairs(&s[2..]);
+    }
+    if n == 3 {
+        return 3 + characters::triples(&s[3..]);
+    }
+    n
 }
 
 // How many bytes the longest well-formed beginning of s has.
