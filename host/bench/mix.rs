@@ -31,7 +31,8 @@ pub fn mix() -> Vec<Item> {
 }
 
 /// Messages that show what texts cost: the insert with names and strings of
-/// two and of three bytes a character, and long texts.
+/// two and of three bytes a character, and long texts. The last one changes the
+/// length of its characters so often that no run of them pays.
 pub fn texts() -> Vec<Item> {
     vec![
         insert("Greek insert", &GREEK, 1, 32, 0),
@@ -40,6 +41,8 @@ pub fn texts() -> Vec<Item> {
         long_text("long German", GERMAN_REMARK),
         long_text("long Greek", GREEK.remark),
         long_text("long Chinese", CHINESE.remark),
+        long_text("long mixed", VIETNAMESE_REMARK),
+        long_text("long hostile", "aaж"),
     ]
 }
 
@@ -104,6 +107,10 @@ const CHINESE: Words = Words {
 /// Mostly one byte a character, with others strewn in.
 const GERMAN_REMARK: &str =
     "Der Zähler lief eine Stunde bei mittlerem Durchfluß, die Abweichung blieb über die Länge klein. ";
+
+/// Characters of one, two and three bytes.
+const VIETNAMESE_REMARK: &str =
+    "Đồng hồ đo lưu lượng chạy trong một giờ ở lưu lượng trung bình, sai số vẫn nhỏ. ";
 
 fn ping() -> Item {
     let body = PING[21..].to_vec();
