@@ -2,6 +2,7 @@
 
 use crate::common::bson::{binary, document, element, string};
 use crate::common::message::{Draft, Section};
+use crate::common::random::Random;
 use crate::common::PING;
 
 /// A message, and the inputs from which it is written and appended to.
@@ -42,7 +43,7 @@ pub fn texts() -> Vec<Item> {
         long_text("long Greek", GREEK.remark),
         long_text("long Chinese", CHINESE.remark),
         long_text("long mixed", VIETNAMESE_REMARK),
-        long_text("long hostile", "aaж"),
+        long_text("long hostile", "aaж 水é a水 😀a éaa水 é水😀 水aaaé"),
     ]
 }
 
@@ -174,9 +175,16 @@ fn without_sequences(name: &'static str, body: Vec<u8>) -> Item {
     }
 }
 
-/// A command that carries a text of about 16,000 bytes.
+/// A command that carries a text of about 16,000 bytes, which has the words of
+/// a sentence in any order: a text that comes again and again is foreseen.
 fn long_text(name: &'static str, sentence: &str) -> Item {
-    let text = sentence.repeat(16_000 / sentence.len());
+    let words: Vec<&str> = sentence.split_whitespace().collect();
+    let mut random = Random::new(16);
+    let mut text = String::new();
+    while text.len() < 16_000 {
+        text.push_str(random.pick(&words));
+        text.push(' ');
+    }
     let body = document(
         &[
             element(0x02, b"remark", &string(text.as_bytes())),

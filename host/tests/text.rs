@@ -235,9 +235,16 @@ fn the_independent_check_is_rust_s() {
 
 // ------------------------------------------------------------- long texts
 
-/// Texts of about 70 bytes, of characters of one to four bytes; and one that
-/// has several blocks of 64.
-const LONG: [(char, usize); 5] = [('a', 70), ('a', 230), ('ж', 35), ('水', 24), ('😀', 18)];
+/// Texts of about 70 bytes, of characters of one to four bytes; and two that
+/// have several of the blocks by which the library passes them.
+const LONG: [(char, usize); 6] = [
+    ('a', 70),
+    ('a', 230),
+    ('ж', 35),
+    ('ж', 115),
+    ('水', 24),
+    ('😀', 18),
+];
 
 /// What is put into them: a character of each length, and faults of all kinds.
 const INSERTS: [&[u8]; 20] = [

@@ -3,5 +3,6 @@ pub mod Checks
 pub mod Forms
 pub mod OneByte
 pub mod Passing
+pub mod Blocks
 pub mod Numbers
 pub mod Examples

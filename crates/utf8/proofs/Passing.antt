@@ -59,10 +59,11 @@ ascii-passes (suc n) (x ∷ xs) l a =
 
 -- ---- parts `&xs[m..]`, and the ends
 
+pub passes-then : (m n : ℕ) (xs : List ℕ) → Passes m xs → Passes n (drop m xs) → Passes (m + n) xs
+passes-then m n xs p q = omega (arith, length-drop m xs, ap wellFormed (drop-drop n m xs))
+
 pub passes-part : (m n : ℕ) (xs : List ℕ) → Passes m xs → Passes n (take (length xs - m) (drop m xs)) → Passes (m + n) xs
-passes-part m n xs p q =
-    let r : Passes n (drop m xs) = rw rest-part at q in
-    omega (arith, length-drop m xs, ap wellFormed (drop-drop n m xs))
+passes-part m n xs p q = passes-then m n xs p (rw rest-part at q)
 
 pub ends-before : (m : ℕ) (xs : List ℕ) → Passes m xs → wellFormed (take (length xs - m) (drop m xs)) ≡ 0 → m ≡ wellFormed xs
 ends-before m xs p e = omega (arith, rw rest-part at e)

@@ -4,6 +4,7 @@ use Prim.Native.Nat.{ℕ, _+_, _≤_, _<_}
 use mathlib.Core.Bool.{Bool, true, false}
 use mathlib.Core.List.{List}
 use mathlib.Core.Path.{_≡_}
+use mathlib.Core.Logic.{_⊎_}
 use lib.ListN.{length, getD, take, drop}
 use Rattle.wire.specs.Outcome.{ok, refused}
 use Rattle.wire.specs.Bytes.{untilZero}
@@ -22,6 +23,14 @@ counted n false = 0
 -- the first n bytes of xs are characters, and the longest well-formed beginning runs on behind them
 abbrev pub Passes : (n : ℕ) → List ℕ → Type 0
 Passes n xs = (n ≤ length xs) × (wellFormed xs ≡ n + wellFormed (drop n xs))
+
+-- y may stand behind x where each character has one byte or two: a tail behind the first of two, and anything else behind a tail or a character of one
+abbrev pub Follows : (x y : ℕ) → Type 0
+Follows x y = ((0xC2 ≤ x) × (x ≤ 0xDF) × (0x80 ≤ y) × (y ≤ 0xBF)) ⊎ ((x ≤ 0xBF) × ((y < 0x80) ⊎ (0xBF < y)))
+
+-- so it is behind each of the first n bytes
+abbrev pub Joined : (n : ℕ) → List ℕ → Type 0
+Joined n xs = (i : ℕ) → i < n → Follows (getD xs i 0) (getD xs (i + 1) 0)
 
 -- what is found of text that a zero byte ends
 abbrev pub Ended : List ℕ → ZeroEnded → Type 0

@@ -27,7 +27,7 @@ fn step(s: &[u8]) -> usize
     }
     let n = characters::character(s);
     if n == 2 {
-        return 2 + characters::pairs(&s[2..]);
+        return 2 + characters::narrow(&s[2..]);
     }
     if n == 3 {
         return 3 + characters::triples(&s[3..]);

@@ -24,7 +24,7 @@ three c = rw (c .if3 .taken) at (one (c .before .before))
 two-and-more : tie.Need-returns-2
 two-and-more c =
     let t = c .before .before in
-    (passes-part 2 _ (t .before .before .before .before .before .args .s .now) (two t) (c .pairs .ensures), λ e. absurd (omega (arith, e)))
+    (passes-part 2 _ (t .before .before .before .before .before .args .s .now) (two t) (c .narrow .ensures), λ e. absurd (omega (arith, e)))
 
 three-and-more : tie.Need-returns-3
 three-and-more c =

@@ -9,10 +9,10 @@ use Rattle.utf8.proofs.characters.pairs.Statement.{statement}
 use Rattle.utf8.proofs.characters.pairs.Tie as tie
 
 abbrev Inv-loop : tie.InvT-loop
-Inv-loop s i₀ i = Passes i s
+Inv-loop s end i₀ i = Passes i s
 
 abbrev μ-loop : tie.MeasureT-loop
-μ-loop s i₀ i = length s - i
+μ-loop s end i₀ i = length s - i
 
 loop-again : tie.Need-loop-again Inv-loop μ-loop
 loop-again c = passes-part _ _ _ (c .before .before .before .before .loop .inv) (c .before .pair .ensures)
@@ -22,7 +22,6 @@ pairs-spec =
     tie.close
     (tie.spec Inv-loop μ-loop
     (λ c. none-passes _)
-    (λ c. omega arith)
     (λ c. omega arith)
     (λ c. omega arith)
     (λ c. omega arith)
