@@ -10,14 +10,10 @@ use lib.ListN.{length, getD, drop, length-drop}
 use lib.Seq.{getD-drop}
 use borrow.Author.Tests.{le-leb}
 use Rattle.utf8.specs.Utf8.{_–_, tail, forms}
-use Rattle.utf8.specs.Inner.{Passes, Follows, Joined}
+use Rattle.utf8.specs.Inner.{Passes, Tail, Other, Joined}
 use Rattle.utf8.proofs.OneByte.{ascii-one}
 use Rattle.utf8.proofs.Forms.{a-byte, meeting, of-form}
 use Rattle.utf8.proofs.Passing.{none-passes, ascii-passes, character-passes, passes-then}
-
--- a byte that is no tail
-abbrev pub Other : ℕ → Type 0
-Other x = (x < 0x80) ⊎ (0xBF < x)
 
 first-byte : (p : ℕ) (s : List ℕ) → getD (drop p s) 0 0 ≡ getD s p 0
 first-byte p s = let same : p + 0 ≡ p = omega arith in getD-drop p s 0 0 ∙ ap (λ (i : ℕ). getD s i 0) same
@@ -28,18 +24,18 @@ one p s l h before =
     let first : getD (drop p s) 0 0 < 0x80 = rw (first-byte p s) h in
     passes-then p 1 s before (ascii-passes 1 (drop p s) (omega (arith, length-drop p s)) (ascii-one (drop p s) first))
 
-two : (p : ℕ) (s : List ℕ) → p + 1 < length s → 0xC2 ≤ getD s p 0 → getD s p 0 ≤ 0xDF → 0x80 ≤ getD s (p + 1) 0 → getD s (p + 1) 0 ≤ 0xBF → Passes p s → Passes (p + 2) s
+two : (p : ℕ) (s : List ℕ) → p + 1 < length s → 0xC2 ≤ getD s p 0 → getD s p 0 ≤ 0xDF → Tail (getD s (p + 1) 0) → Passes p s → Passes (p + 2) s
 unfolding forms meeting
-two p s l a b c d before =
+two p s l a b t before =
     let long = length-drop p s in
     let byte = a-byte tail (drop p s) 1 (omega (arith, long)) in
     let first = first-byte p s in
     let form = of-form (0xC2 – 0xDF) (drop p s) (omega (arith, long)) (rw first a) (rw first b) (tail ∷ []) refl in
-    passes-then p 2 s before (character-passes 2 (drop p s) (rw (form, byte, getD-drop p s 1 0, le-leb _ _ c, le-leb _ _ d)))
+    passes-then p 2 s before (character-passes 2 (drop p s) (rw (form, byte, getD-drop p s 1 0, le-leb _ _ (t .0), le-leb _ _ (t .1))))
 
 -- where a block ends: behind it, or behind one byte more, which is a tail
 abbrev Ends : List ℕ → Type 0
-Ends s = (Passes 32 s × Other (getD s 32 0)) ⊎ (Passes 33 s × (0x80 ≤ getD s 32 0) × (getD s 32 0 ≤ 0xBF))
+Ends s = (Passes 32 s × Other (getD s 32 0)) ⊎ (Passes 33 s × Tail (getD s 32 0))
 
 module _ (s : List ℕ) (long : 33 ≤ length s) (joined : Joined 32 s) where
   at-end : (p : ℕ) → p ≡ 32 → Other (getD s p 0) → Passes p s → Ends s
@@ -49,22 +45,21 @@ module _ (s : List ℕ) (long : 33 ≤ length s) (joined : Joined 32 s) where
   abbrev From : (left : ℕ) → Type 0
   From left = (p : ℕ) → 32 ≤ p + left → p ≤ 32 → Other (getD s p 0) → Passes p s → Ends s
 
-  behind-two : (left : ℕ) → From left → (p : ℕ) → 32 ≤ p + suc left → p < 32 → 0xC2 ≤ getD s p 0 → getD s p 0 ≤ 0xDF → 0x80 ≤ getD s (p + 1) 0 → getD s (p + 1) 0 ≤ 0xBF
-      → Passes p s → Ends s
-  behind-two left rest p f l a b c d before =
-      let passed = two p s (omega arith) a b c d before in
+  behind-two : (left : ℕ) → From left → (p : ℕ) → 32 ≤ p + suc left → p < 32 → 0xC2 ≤ getD s p 0 → getD s p 0 ≤ 0xDF → Tail (getD s (p + 1) 0) → Passes p s → Ends s
+  behind-two left rest p f l a b t before =
+      let passed = two p s (omega arith) a b t before in
       elim (decLt (p + 1) 32) [
         | yes m ↦ elim (joined (p + 1) m) [
-          | inl q ↦ absurd (omega (arith, q .0))
+          | inl q ↦ absurd (omega (arith, q .0, t .1))
           | inr q ↦ let next : p + 1 + 1 ≡ p + 2 = omega arith in rest (p + 2) (omega arith) (omega arith) (rw next at (q .1)) passed
         ]
-        | no m ↦ let e : p + 1 ≡ 32 = omega arith in let e′ : p + 2 ≡ 33 = omega arith in inr (rw e′ at passed, rw e at c, rw e at d)
+        | no m ↦ let e : p + 1 ≡ 32 = omega arith in let e′ : p + 2 ≡ 33 = omega arith in inr (rw e′ at passed, rw e at t)
       ]
 
   behind : (left : ℕ) → From left → (p : ℕ) → 32 ≤ p + suc left → p < 32 → Other (getD s p 0) → Passes p s → Ends s
   behind left rest p f l o before =
       elim (joined p l) [
-        | inl q ↦ behind-two left rest p f l (q .0) (q .1) (q .2) (q .3) before
+        | inl q ↦ behind-two left rest p f l (q .0) (q .1) (q .2) before
         | inr q ↦ elim o [
           | inl h ↦ rest (p + 1) (omega arith) (omega arith) (q .1) (one p s (omega arith) h before)
           | inr h ↦ absurd (omega (arith, q .0, h))
@@ -80,7 +75,7 @@ module _ (s : List ℕ) (long : 33 ≤ length s) (joined : Joined 32 s) where
     ends = from 32 0 (omega arith) (omega arith) start (none-passes s)
 
     pub whole : Other (getD s 32 0) → Passes 32 s
-    whole o = elim ends [ inl e ↦ e .0 | inr e ↦ elim o [ inl h ↦ absurd (omega (arith, h, e .1)) | inr h ↦ absurd (omega (arith, h, e .2)) ] ]
+    whole o = elim ends [ inl e ↦ e .0 | inr e ↦ elim o [ inl h ↦ absurd (omega (arith, h, e .1 .0)) | inr h ↦ absurd (omega (arith, h, e .1 .1)) ] ]
 
-    pub and-a-tail : 0x80 ≤ getD s 32 0 → getD s 32 0 ≤ 0xBF → Passes 33 s
-    and-a-tail l h = elim ends [ inr e ↦ e .0 | inl e ↦ elim (e .1) [ inl k ↦ absurd (omega (arith, k, l)) | inr k ↦ absurd (omega (arith, k, h)) ] ]
+    pub and-a-tail : Tail (getD s 32 0) → Passes 33 s
+    and-a-tail t = elim ends [ inr e ↦ e .0 | inl e ↦ elim (e .1) [ inl k ↦ absurd (omega (arith, k, t .0)) | inr k ↦ absurd (omega (arith, k, t .1)) ] ]

@@ -24,9 +24,16 @@ counted n false = 0
 abbrev pub Passes : (n : ℕ) → List ℕ → Type 0
 Passes n xs = (n ≤ length xs) × (wellFormed xs ≡ n + wellFormed (drop n xs))
 
+-- a byte that only stands behind another one of its character, and one that never does
+abbrev pub Tail : ℕ → Type 0
+Tail x = (0x80 ≤ x) × (x ≤ 0xBF)
+
+abbrev pub Other : ℕ → Type 0
+Other x = (x < 0x80) ⊎ (0xBF < x)
+
 -- y may stand behind x where each character has one byte or two: a tail behind the first of two, and anything else behind a tail or a character of one
 abbrev pub Follows : (x y : ℕ) → Type 0
-Follows x y = ((0xC2 ≤ x) × (x ≤ 0xDF) × (0x80 ≤ y) × (y ≤ 0xBF)) ⊎ ((x ≤ 0xBF) × ((y < 0x80) ⊎ (0xBF < y)))
+Follows x y = ((0xC2 ≤ x) × (x ≤ 0xDF) × Tail y) ⊎ ((x ≤ 0xBF) × Other y)
 
 -- so it is behind each of the first n bytes
 abbrev pub Joined : (n : ℕ) → List ℕ → Type 0

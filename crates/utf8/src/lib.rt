@@ -8,6 +8,7 @@ ghost use Rattle.utf8.specs.Inner.{Passes, Ended};
 
 mod ascii;
 mod characters;
+mod runs;
 
 // What a zero byte ends: text of so many bytes; or there is no zero byte; or the bytes before it are UTF-8 up to that one alone.
 pub enum ZeroEnded {
@@ -27,10 +28,10 @@ fn step(s: &[u8]) -> usize
     }
     let n = characters::character(s);
     if n == 2 {
-        return 2 + characters::narrow(&s[2..]);
+        return 2 + runs::narrow(&s[2..]);
     }
     if n == 3 {
-        return 3 + characters::triples(&s[3..]);
+        return 3 + runs::triples(&s[3..]);
     }
     n
 }

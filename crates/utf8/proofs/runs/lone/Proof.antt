@@ -1,11 +1,11 @@
--- `utf8::characters::lone` meets its contract: the byte that was looked at is a character, or nothing is passed.
+-- `utf8::runs::lone` meets its contract: the byte that was looked at is a character, or nothing is passed.
 -- Assumes nothing.
 use native.Mathlib.Omega.{arith}
 use borrow.Author.Count.{below-none, below-more}
 use borrow.Author.Needs.{needs}
 use Rattle.utf8.proofs.Passing.{none-passes, ascii-passes}
-use Rattle.utf8.proofs.characters.lone.Statement.{statement}
-use Rattle.utf8.proofs.characters.lone.Tie as tie
+use Rattle.utf8.proofs.runs.lone.Statement.{statement}
+use Rattle.utf8.proofs.runs.lone.Tie as tie
 
 one : tie.Need-returns-2
 one c =

@@ -1,9 +1,9 @@
--- `utf8::characters::narrow` meets its contract: a run of pairs, and blocks behind it.
+-- `utf8::runs::narrow` meets its contract: a run of pairs, and blocks behind it.
 -- Assumes nothing.
 use borrow.Author.Needs.{needs}
 use Rattle.utf8.proofs.Passing.{none-passes, passes-part}
-use Rattle.utf8.proofs.characters.narrow.Statement.{statement}
-use Rattle.utf8.proofs.characters.narrow.Tie as tie
+use Rattle.utf8.proofs.runs.narrow.Statement.{statement}
+use Rattle.utf8.proofs.runs.narrow.Tie as tie
 
 pairs-and-blocks : tie.Need-returns-4
 pairs-and-blocks c =

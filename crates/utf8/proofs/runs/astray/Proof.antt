@@ -1,10 +1,10 @@
--- `utf8::characters::astray` meets its contract: where it answers 0, its tests say what stands behind what.
+-- `utf8::runs::astray` meets its contract: where it answers 0, its tests say what stands behind what.
 -- Assumes nothing.
 use mathlib.Core.Logic.{inl, inr}
 use native.Mathlib.Omega.{arith}
 use borrow.Author.Needs.{needs}
-use Rattle.utf8.proofs.characters.astray.Statement.{statement}
-use Rattle.utf8.proofs.characters.astray.Tie as tie
+use Rattle.utf8.proofs.runs.astray.Statement.{statement}
+use Rattle.utf8.proofs.runs.astray.Tie as tie
 
 pub astray-spec : {M : Type 1} → statement M
 astray-spec =
@@ -13,6 +13,6 @@ astray-spec =
     (λ c κs. search needs)
     (λ c e. absurd (omega (arith, e)))
     (λ c e. absurd (omega (arith, e)))
-    (λ c _. let t = c .before .before in let y = t .before .tail .ensures .0 (t .if1 .taken) in inl (c .before .if2 .left, c .if3 .left, y .0, y .1))
+    (λ c _. let t = c .before .before in inl (c .before .if2 .left, c .if3 .left, t .before .tail .ensures .0 (t .if1 .taken)))
     (λ c e. absurd (omega (arith, e)))
     (λ c _. let t = c .before in inr (c .if4 .left, t .before .tail .ensures .1 (t .if1 .left))))

@@ -1,11 +1,11 @@
--- `utf8::characters::tail` meets its contract: each way out has its test.
+-- `utf8::runs::tail` meets its contract: each way out has its test.
 -- Assumes nothing.
 use mathlib.Core.Bool.{false≢true}
 use mathlib.Core.Path.{sym}
 use mathlib.Core.Logic.{inl, inr}
 use borrow.Author.Tests.{leb-true, leb-false}
-use Rattle.utf8.proofs.characters.tail.Statement.{statement}
-use Rattle.utf8.proofs.characters.tail.Tie as tie
+use Rattle.utf8.proofs.runs.tail.Statement.{statement}
+use Rattle.utf8.proofs.runs.tail.Tie as tie
 
 pub tail-spec : {M : Type 1} → statement M
 tail-spec =

@@ -1,19 +1,18 @@
--- `utf8::characters::block` meets its contract: it begins with no tail, its bytes are joined, and its last one tells where it ends.
+-- `utf8::runs::block` meets its contract: it begins with no tail, its bytes are joined, and its last one tells where it ends.
 -- Assumes nothing.
 use borrow.Author.Needs.{needs}
 use borrow.Author.Tests.{not-false}
 use Rattle.utf8.proofs.Passing.{none-passes}
 use Rattle.utf8.proofs.Blocks.{whole, and-a-tail}
-use Rattle.utf8.proofs.characters.block.Statement.{statement}
-use Rattle.utf8.proofs.characters.block.Tie as tie
+use Rattle.utf8.proofs.runs.block.Statement.{statement}
+use Rattle.utf8.proofs.runs.block.Tie as tie
 
 a-byte-more : tie.Need-returns-3
 a-byte-more c =
     let j = c .before .before .before in
     let t = j .before .before in
     let a = t .before .before .before .before in
-    let last = c .before .tail2 .ensures .0 (c .if3 .taken) in
-    and-a-tail (a .args .s .now) (a .pre) (j .before .joined .ensures (not-false _ (j .if2 .left))) (t .before .tail .ensures .1 (t .if1 .left)) (last .0) (last .1)
+    and-a-tail (a .args .s .now) (a .pre) (j .before .joined .ensures (not-false _ (j .if2 .left))) (t .before .tail .ensures .1 (t .if1 .left)) (c .before .tail2 .ensures .0 (c .if3 .taken))
 
 no-more : tie.Need-returns-4
 no-more c =

@@ -1,4 +1,4 @@
--- `utf8::characters::joined` meets its contract. The loop's invariant: where `all` is 0, each byte that was passed has behind it what may stand there.
+-- `utf8::runs::joined` meets its contract. The loop's invariant: where `all` is 0, each byte that was passed has behind it what may stand there.
 -- Assumes nothing.
 use Prim.Native.Nat.{ℕ, _-_, _≤_}
 use mathlib.Core.Path.{_≡_}
@@ -8,8 +8,8 @@ use lib.Bits.{or-add-and, and-le-l, and-le-r}
 use borrow.Author.Count.{below-more}
 use borrow.Author.Tests.{eqb-true}
 use Rattle.utf8.specs.Inner.{Joined}
-use Rattle.utf8.proofs.characters.joined.Statement.{statement}
-use Rattle.utf8.proofs.characters.joined.Tie as tie
+use Rattle.utf8.proofs.runs.joined.Statement.{statement}
+use Rattle.utf8.proofs.runs.joined.Tie as tie
 
 abbrev Inv-loop : tie.InvT-loop
 Inv-loop s all₀ k₀ all k = (k ≤ 32) × (all ≡ 0 → Joined k s)

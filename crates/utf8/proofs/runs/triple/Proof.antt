@@ -1,9 +1,9 @@
--- `utf8::characters::triple` meets its contract: a character of three bytes is passed, or nothing is.
+-- `utf8::runs::triple` meets its contract: a character of three bytes is passed, or nothing is.
 -- Assumes nothing.
 use borrow.Author.Needs.{needs}
 use Rattle.utf8.proofs.Passing.{none-passes, character-passes}
-use Rattle.utf8.proofs.characters.triple.Statement.{statement}
-use Rattle.utf8.proofs.characters.triple.Tie as tie
+use Rattle.utf8.proofs.runs.triple.Statement.{statement}
+use Rattle.utf8.proofs.runs.triple.Tie as tie
 
 pub triple-spec : {M : Type 1} → statement M
 triple-spec =

@@ -1,28 +1,27 @@
--- `utf8::characters::triples` meets its contract. The loop's invariant: the longest well-formed beginning passes the first i bytes.
+-- `utf8::runs::pairs` meets its contract. The loop's invariant: the longest well-formed beginning passes the first i bytes.
 -- Assumes nothing.
 use Prim.Native.Nat.{_-_}
 use native.Mathlib.Omega.{arith}
 use lib.ListN.{length}
 use Rattle.utf8.specs.Inner.{Passes}
 use Rattle.utf8.proofs.Passing.{none-passes, passes-part}
-use Rattle.utf8.proofs.characters.triples.Statement.{statement}
-use Rattle.utf8.proofs.characters.triples.Tie as tie
+use Rattle.utf8.proofs.runs.pairs.Statement.{statement}
+use Rattle.utf8.proofs.runs.pairs.Tie as tie
 
 abbrev Inv-loop : tie.InvT-loop
-Inv-loop s i₀ i = Passes i s
+Inv-loop s end i₀ i = Passes i s
 
 abbrev μ-loop : tie.MeasureT-loop
-μ-loop s i₀ i = length s - i
+μ-loop s end i₀ i = length s - i
 
 loop-again : tie.Need-loop-again Inv-loop μ-loop
-loop-again c = passes-part _ _ _ (c .before .before .before .before .loop .inv) (c .before .triple .ensures)
+loop-again c = passes-part _ _ _ (c .before .before .before .before .loop .inv) (c .before .pair .ensures)
 
-pub triples-spec : {M : Type 1} → statement M
-triples-spec =
+pub pairs-spec : {M : Type 1} → statement M
+pairs-spec =
     tie.close
     (tie.spec Inv-loop μ-loop
     (λ c. none-passes _)
-    (λ c. omega arith)
     (λ c. omega arith)
     (λ c. omega arith)
     (λ c. omega arith)

@@ -1,12 +1,12 @@
--- `utf8::characters::blocks` meets its contract. The loop's invariant: the longest well-formed beginning passes the first i bytes.
+-- `utf8::runs::blocks` meets its contract. The loop's invariant: the longest well-formed beginning passes the first i bytes.
 -- Assumes nothing.
 use Prim.Native.Nat.{_-_}
 use native.Mathlib.Omega.{arith}
 use lib.ListN.{length}
 use Rattle.utf8.specs.Inner.{Passes}
 use Rattle.utf8.proofs.Passing.{none-passes, passes-part}
-use Rattle.utf8.proofs.characters.blocks.Statement.{statement}
-use Rattle.utf8.proofs.characters.blocks.Tie as tie
+use Rattle.utf8.proofs.runs.blocks.Statement.{statement}
+use Rattle.utf8.proofs.runs.blocks.Tie as tie
 
 abbrev Inv-loop : tie.InvT-loop
 Inv-loop s i₀ i = Passes i s

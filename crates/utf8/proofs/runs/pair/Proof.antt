@@ -1,4 +1,4 @@
--- `utf8::characters::pair` meets its contract: its first byte tells the form of two bytes, or a lone one, or nothing is passed.
+-- `utf8::runs::pair` meets its contract: its first byte tells the form of two bytes, or a lone one, or nothing is passed.
 -- Assumes nothing.
 use mathlib.Core.Path.{refl, sym, _∙_}
 use native.Mathlib.Omega.{arith}
@@ -6,8 +6,8 @@ use borrow.Author.Needs.{needs}
 use Rattle.utf8.specs.Utf8.{_–_, forms}
 use Rattle.utf8.proofs.Forms.{meeting, of-form}
 use Rattle.utf8.proofs.Passing.{none-passes, character-passes}
-use Rattle.utf8.proofs.characters.pair.Statement.{statement}
-use Rattle.utf8.proofs.characters.pair.Tie as tie
+use Rattle.utf8.proofs.runs.pair.Statement.{statement}
+use Rattle.utf8.proofs.runs.pair.Tie as tie
 
 of-two : tie.Need-returns-4
 unfolding forms meeting
