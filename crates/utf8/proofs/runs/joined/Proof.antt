@@ -1,9 +1,8 @@
 -- `utf8::runs::joined` meets its contract. The loop's invariant: where `all` is 0, each byte that was passed has behind it what may stand there.
 -- Assumes nothing.
-use Prim.Native.Nat.{ℕ, _-_, _≤_}
+use Prim.Native.Nat.{_-_, _≤_}
 use mathlib.Core.Path.{_≡_}
 use native.Mathlib.Omega.{arith}
-use lib.ListN.{getD}
 use lib.Bits.{or-add-and, and-le-l, and-le-r}
 use borrow.Author.Count.{below-more}
 use borrow.Author.Tests.{eqb-true}

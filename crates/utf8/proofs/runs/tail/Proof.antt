@@ -1,7 +1,6 @@
 -- `utf8::runs::tail` meets its contract: each way out has its test.
 -- Assumes nothing.
 use mathlib.Core.Bool.{false≢true}
-use mathlib.Core.Path.{sym}
 use mathlib.Core.Logic.{inl, inr}
 use borrow.Author.Tests.{leb-true, leb-false}
 use Rattle.utf8.proofs.runs.tail.Statement.{statement}
