@@ -1,5 +1,6 @@
 /*
- * relay.h - reads, forwards, writes and extends MongoDB OP_MSG messages.
+ * relay.h - reads, forwards, writes, extends and reorders MongoDB OP_MSG
+ * messages.
  *
  * For C99 or C++11, and later ones. Link with librelay_c.a, which is for
  * x86-64 Linux and needs the C library alone.
@@ -8,12 +9,14 @@
  *   relay_forward    checks a message and copies it, as a relay passes it on
  *   relay_write      makes a message from a body
  *   relay_append     copies a message with one more document sequence
+ *   relay_move       copies a message with its body at another place among its
+ *                    document sequences
  *
  *     struct relay_view view;
  *     uint64_t result = relay_read(RELAY_HOUSE_BITS, 1, bytes, length,
  *                                  RELAY_VIEW(&view));
  *     if (result == RELAY_ACCEPTED)
- *         use(bytes + view.body_start, view.body_length);
+ *         use(bytes + relay_body(&view)->start, relay_body(&view)->length);
  *     else
  *         fprintf(stderr, "refusal %d at %lu: %s\n", (int)relay_number(result),
  *                 (unsigned long)relay_place(result),
@@ -80,9 +83,9 @@
  * bytes may stand anywhere.
  *
  *   On a refusal neither the output nor the view changes.
- *   On acceptance every byte of the written message and each of the 88 numbers
+ *   On acceptance every byte of the written message and each of the 107 numbers
  *   of the view is decided by the call alone, whatever was there before; bytes
- *   of the output past the message and numbers of the view past the 88th stay.
+ *   of the output past the message and numbers of the view past the 107th stay.
  */
 #ifndef RELAY_H
 #define RELAY_H
@@ -94,7 +97,7 @@
 extern "C" {
 #endif
 
-#define RELAY_VERSION "0.1.0"
+#define RELAY_VERSION "0.2.0"
 
 /*
  * The limits are the library's own: MongoDB takes longer and deeper messages.
@@ -112,8 +115,11 @@ extern "C" {
 /* The most document sequences in a message. */
 #define RELAY_MAX_SEQUENCES 16
 
+/* The most sections in a message: a body and its document sequences. */
+#define RELAY_MAX_SECTIONS 17
+
 /* How many numbers a view has. */
-#define RELAY_VIEW_NUMBERS 88
+#define RELAY_VIEW_NUMBERS 107
 
 /* The flag bits that OP_MSG has a use for. */
 #define RELAY_CHECKSUM_PRESENT ((uint32_t)1 << 0)
@@ -124,59 +130,106 @@ extern "C" {
 #define RELAY_HOUSE_BITS \
     (RELAY_CHECKSUM_PRESENT | RELAY_MORE_TO_COME | RELAY_EXHAUST_ALLOWED)
 
-/*
- * One document sequence. Places are counted in bytes from the start of the
- * message.
- */
-struct relay_sequence {
-    int64_t identifier_start;
-    int64_t identifier_length; /* without the zero byte */
-    int64_t documents_start;
-    int64_t documents_end;     /* the place after the last document */
-    int64_t documents;         /* how many documents, 0 or more */
+/* What an entry of a view says. */
+enum relay_kind {
+    RELAY_NONE = -1, /* nothing: the entry is not used */
+    RELAY_BODY = 0,
+    RELAY_SEQUENCE = 1
 };
 
 /*
- * What an accepted message holds: the 88 numbers that a call writes, in order.
+ * One section. Places are counted in bytes from the start of the message. A
+ * body has no identifier and counts no documents, an unused entry has nothing:
+ * the numbers for what is not there are 0.
+ */
+struct relay_entry {
+    int64_t kind;              /* one of enum relay_kind */
+    int64_t identifier_start;
+    int64_t identifier_length; /* without the zero byte */
+    int64_t start;             /* the place of the body's BSON document, or of
+                                  a sequence's documents */
+    int64_t length;            /* how many bytes these take */
+    int64_t documents;         /* how many documents a sequence has, 0 or more */
+};
+
+/*
+ * What an accepted message holds: the 107 numbers that a call writes, in order.
  * The message is the one that relay_read has read, or the one that another call
- * has written to its output. Its sequences stand in the order of the message,
- * and each document starts with its length:
+ * has written to its output. Its sections stand in the order of the message,
+ * with the unused entries behind them. Each document starts with its length, so
+ * this meets the body and all documents of sequences, as they stand:
  *
- *     for (int64_t i = 0; i < view.sequence_count; i++) {
- *         const struct relay_sequence *sequence = &view.sequences[i];
- *         int64_t at = sequence->documents_start;
- *         while (at < sequence->documents_end) {
+ *     for (int i = 0; i < RELAY_MAX_SECTIONS; i++) {
+ *         const struct relay_entry *entry = &view.entries[i];
+ *         int64_t at = entry->start;
+ *         while (at < entry->start + entry->length) {
  *             const uint8_t *document = message + at;
  *             uint32_t length =
  *                 (uint32_t)document[0] | (uint32_t)document[1] << 8 |
  *                 (uint32_t)document[2] << 16 | (uint32_t)document[3] << 24;
- *             use(document, length);
+ *             use(entry, document, length);
  *             at += length;
  *         }
  *     }
  */
 struct relay_view {
-    int64_t length;         /* messageLength */
-    int64_t request_id;     /* signed: -1 is -1 */
+    int64_t length;      /* messageLength */
+    int64_t request_id;  /* signed: -1 is -1 */
     int64_t response_to;
-    int64_t flags;          /* the flag word, kept to the known bits */
-    int64_t body_start;     /* the place of the body's BSON document */
-    int64_t body_length;    /* that document's length */
-    int64_t sequence_count; /* how many entries of `sequences` are used */
-    int64_t elements;       /* elements at all levels of all documents */
-    struct relay_sequence sequences[RELAY_MAX_SEQUENCES]; /* unused ones are 0 */
+    int64_t flags;       /* the flag word, kept to the known bits */
+    int64_t elements;    /* elements at all levels of all documents */
+    struct relay_entry entries[RELAY_MAX_SECTIONS];
 };
 
-/* Fails to compile where the structure is not just the 88 numbers. */
-typedef char relay_view_is_88_numbers
+/* Fails to compile where the structure is not just the 107 numbers. */
+typedef char relay_view_is_107_numbers
     [sizeof(struct relay_view) == RELAY_VIEW_NUMBERS * sizeof(int64_t) ? 1 : -1];
 
 /*
  * Passes a pointer to a struct relay_view as the last two arguments of a call,
- * `view` and `view_len`. Who keeps views in another form lends 88 or more
+ * `view` and `view_len`. Who keeps views in another form lends 107 or more
  * numbers of type int64_t.
  */
 #define RELAY_VIEW(pointer) ((int64_t *)(void *)(pointer)), RELAY_VIEW_NUMBERS
+
+/*
+ * The four functions below are for the view of an accepted message.
+ */
+
+/* How many sequences stand before the body. */
+static inline uint32_t relay_behind(const struct relay_view *view)
+{
+    uint32_t place = 0;
+    while (place < RELAY_MAX_SEQUENCES && view->entries[place].kind == RELAY_SEQUENCE)
+        place++;
+    return place;
+}
+
+/* The body's entry. */
+static inline const struct relay_entry *relay_body(const struct relay_view *view)
+{
+    return &view->entries[relay_behind(view)];
+}
+
+/* How many sequences the message has. */
+static inline uint32_t relay_sequence_count(const struct relay_view *view)
+{
+    uint32_t place, count = 0;
+    for (place = 0; place < RELAY_MAX_SECTIONS; place++)
+        count += view->entries[place].kind == RELAY_SEQUENCE;
+    return count;
+}
+
+/* The entry of a sequence, by its number from 0 on; NULL where there is none. */
+static inline const struct relay_entry *relay_sequence(const struct relay_view *view,
+                                                       uint32_t number)
+{
+    uint32_t place;
+    for (place = 0; place < RELAY_MAX_SECTIONS; place++)
+        if (view->entries[place].kind == RELAY_SEQUENCE && number-- == 0)
+            return &view->entries[place];
+    return NULL;
+}
 
 /*
  * The refusals, each with its place. When each is given stands in
@@ -214,8 +267,9 @@ enum relay_refusal {
     RELAY_NAME_TWICE = 23,           /* the later name's first byte */
     RELAY_IDENTIFIER_CLASH = 24,     /* the identifier's first byte */
     RELAY_OUTPUT_SHORT = 25,         /* 0 */
-    RELAY_TEXT_NOT_UTF8 = 27         /* the byte after the text's longest
+    RELAY_TEXT_NOT_UTF8 = 27,        /* the byte after the text's longest
                                         beginning that is UTF-8 */
+    RELAY_MOVE_TOO_FAR = 28          /* 0 */
 };
 
 /* The refusal's number in a result; RELAY_ACCEPTED if there is none. */
@@ -294,9 +348,11 @@ static inline const char *relay_words(enum relay_refusal number)
     case RELAY_IDENTIFIER_CLASH:
         return "sequence's identifier is a top-level name of the body or an earlier identifier";
     case RELAY_OUTPUT_SHORT:
-        return "output is too short for the message, or view for its 88 numbers";
+        return "output is too short for the message, or view for its 107 numbers";
     case RELAY_TEXT_NOT_UTF8:
         return "name, identifier, string or part of a regular expression is not UTF-8";
+    case RELAY_MOVE_TOO_FAR:
+        return "body is to move behind more sequences than the message has";
     }
     return "no such refusal";
 }
@@ -307,10 +363,10 @@ static inline const char *relay_words(enum relay_refusal number)
  *
  *   bits, sequences    the edition
  *   message            message_len bytes that start with a message
- *   view               view_len numbers, at least 88; see RELAY_VIEW
+ *   view               view_len numbers, at least 107; see RELAY_VIEW
  *
  * Refusals: 1 to 24 and 27 by the message; then 25 at 0 if the view is shorter
- * than 88 numbers.
+ * than 107 numbers.
  */
 uint64_t relay_read(uint32_t bits, uint8_t sequences,
                     const uint8_t *message, size_t message_len,
@@ -323,7 +379,7 @@ uint64_t relay_read(uint32_t bits, uint8_t sequences,
  * the output.
  *
  * Refusals: those of relay_read; then 25 at 0 if the output is shorter than
- * messageLength, or the view shorter than 88 numbers.
+ * messageLength, or the view shorter than 107 numbers.
  */
 uint64_t relay_forward(uint32_t bits, uint8_t sequences,
                        const uint8_t *message, size_t message_len,
@@ -343,7 +399,7 @@ uint64_t relay_forward(uint32_t bits, uint8_t sequences,
  * bits 16 to 31 too; 2 at 0 if the message would be over 49,152 bytes; 25 at 0
  * if the output is shorter than the message; 15 at 21 if the body is under 4
  * bytes or the length it states is not body_len; those of relay_read on the
- * new message; 25 at 0 if the view is shorter than 88 numbers.
+ * new message; 25 at 0 if the view is shorter than 107 numbers.
  */
 uint64_t relay_write(uint32_t bits, uint8_t sequences,
                      int32_t request_id, int32_t response_to, uint32_t flags,
@@ -367,7 +423,7 @@ uint64_t relay_write(uint32_t bits, uint8_t sequences,
  * over 49,152; 25 at 0 if the output is shorter than the new length; those of
  * relay_read on the new message, so that an identifier that is not UTF-8 is 27
  * from E + 5 on, before the documents are looked at; 25 at 0 if the view is
- * shorter than 88 numbers.
+ * shorter than 107 numbers.
  */
 uint64_t relay_append(uint32_t bits, uint8_t sequences,
                       const uint8_t *message, size_t message_len,
@@ -375,6 +431,29 @@ uint64_t relay_append(uint32_t bits, uint8_t sequences,
                       const uint8_t *documents, size_t documents_len,
                       uint8_t *output, size_t output_len,
                       int64_t *view, size_t view_len);
+
+/*
+ * Writes a message to the output as relay_forward does, with its body behind
+ * the first `behind` of its sequences. Each section keeps its own bytes, and
+ * the sequences their order; where bit 0 is set, there is a new checksum. The
+ * view is that of the new message.
+ *
+ *   behind    how many sequences shall stand before the body: 0 moves it to the
+ *             front, relay_sequence_count() to the end, relay_behind() nowhere
+ *
+ * A message whose set bits are all known is had again from its view, wherever
+ * its body stands: relay_write from the body, relay_append with each sequence in
+ * order, relay_move behind relay_behind().
+ *
+ * Refusals, in this order: those of relay_read; 28 at 0 if the message has fewer
+ * than `behind` sequences; 25 at 0 if the output is shorter than messageLength,
+ * or the view shorter than 107 numbers.
+ */
+uint64_t relay_move(uint32_t bits, uint8_t sequences,
+                    const uint8_t *message, size_t message_len,
+                    uint32_t behind,
+                    uint8_t *output, size_t output_len,
+                    int64_t *view, size_t view_len);
 
 #ifdef __cplusplus
 }

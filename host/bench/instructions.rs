@@ -2,20 +2,27 @@
 //! `bench/instructions.sh`:
 //!
 //! ```text
-//! instructions <read, forward or cleared> <message> <calls>
+//! instructions <call> <message> <calls>
 //! ```
 //!
-//! `cleared` forwards the message with a checksum and with a flag bit that the
-//! house edition clears.
+//! The calls:
 //!
-//! Without arguments it lists the messages with their lengths.
+//! - `read` and `forward`;
+//! - `cleared` forwards the message with a checksum and with a flag bit that
+//!   the house edition clears;
+//! - `move` moves the body behind all sequences;
+//! - `bare` reads the message without its checksum;
+//! - `copy` copies the message, and looks at nothing in it.
+//!
+//! Without arguments it lists the messages with their lengths, and says which
+//! have a checksum.
 
 #[path = "../tests/common/mod.rs"]
 mod common;
 #[allow(dead_code)]
 mod mix;
 
-use common::message::with_flags;
+use common::message::{get_u32, with_flags};
 use common::names::{message_of, Family};
 use relay::{ffi, Edition, MAX_LENGTH, VIEW_NUMBERS};
 use std::env;
@@ -35,48 +42,95 @@ fn main() -> ExitCode {
         _ => None,
     };
     if done.is_none() {
-        eprintln!("instructions <read, forward or cleared> <message> <calls>");
+        eprintln!("instructions <read, forward, cleared, move, bare or copy> <message> <calls>");
         return ExitCode::FAILURE;
     }
     ExitCode::SUCCESS
 }
 
-/// The messages of the benchmark, and three with usual names.
-fn messages() -> Vec<(String, Vec<u8>)> {
-    let mix = mix::mix()
+struct Message {
+    name: String,
+    bytes: Vec<u8>,
+    /// How many sequences it has, all behind its body.
+    sequences: u32,
+}
+
+/// The messages of the benchmark, the smaller insert with a checksum, and three
+/// with usual names.
+fn messages() -> Vec<Message> {
+    let mut messages: Vec<Message> = mix::mix()
         .into_iter()
         .chain(mix::texts())
-        .map(|item| (item.name.replace(' ', "-"), item.message));
-    let named = [16, 64, 256].map(|count| {
-        let names = Family::Usual.names(count);
-        (format!("names-{count}"), message_of(&names))
+        .map(|item| Message {
+            name: item.name.replace(' ', "-"),
+            bytes: item.message,
+            sequences: item.behind,
+        })
+        .collect();
+    let insert = messages.iter().find(|message| message.name == "insert");
+    let insert = insert.expect("among the messages");
+    messages.push(Message {
+        name: "sealed-insert".to_string(),
+        bytes: with_flags(&insert.bytes, 1),
+        sequences: insert.sequences,
     });
-    mix.chain(named).collect()
+    messages.extend([16, 64, 256].map(|count| Message {
+        name: format!("names-{count}"),
+        bytes: message_of(&Family::Usual.names(count)),
+        sequences: 0,
+    }));
+    messages
 }
 
 fn list() {
-    for (name, message) in messages() {
-        println!("{name} {}", message.len());
+    for Message { name, bytes, .. } in messages() {
+        let sealed = get_u32(&bytes, 16) & 1 == 1;
+        println!(
+            "{name} {} {}",
+            bytes.len(),
+            if sealed { "sealed" } else { "-" }
+        );
     }
+}
+
+/// What is done with a message.
+enum Deed {
+    Read,
+    Forward,
+    Move,
+    Copy,
 }
 
 fn run(call: &str, name: &str, calls: &str) -> Option<()> {
     let calls: u32 = calls.parse().ok()?;
-    let (_, message) = messages().into_iter().find(|item| item.0 == name)?;
-    let (forward, message) = match call {
-        "read" => (false, message),
-        "forward" => (true, message),
-        "cleared" => (true, with_flags(&message, 1 | 1 << 17)),
+    let message = messages()
+        .into_iter()
+        .find(|message| message.name == name)?;
+    let Message {
+        bytes, sequences, ..
+    } = message;
+    let (deed, bytes) = match call {
+        "read" => (Deed::Read, bytes),
+        "bare" => (Deed::Read, with_flags(&bytes, 0)),
+        "forward" => (Deed::Forward, bytes),
+        "cleared" => (Deed::Forward, with_flags(&bytes, 1 | 1 << 17)),
+        "move" => (Deed::Move, bytes),
+        "copy" => (Deed::Copy, bytes),
         _ => return None,
     };
+    let bits = HOUSE.bits;
     let mut view = [0; VIEW_NUMBERS];
     let mut output = vec![0; MAX_LENGTH];
     for _ in 0..calls {
-        let message = black_box(&message);
-        let result = if forward {
-            ffi::forward(HOUSE.bits, 1, message, &mut output, &mut view)
-        } else {
-            ffi::read(HOUSE.bits, 1, message, &mut view)
+        let bytes = black_box(&bytes);
+        let result = match deed {
+            Deed::Read => ffi::read(bits, 1, bytes, &mut view),
+            Deed::Forward => ffi::forward(bits, 1, bytes, &mut output, &mut view),
+            Deed::Move => ffi::move_body(bits, 1, bytes, sequences, &mut output, &mut view),
+            Deed::Copy => {
+                output[..bytes.len()].copy_from_slice(bytes);
+                0
+            }
         };
         assert_eq!(result, 0);
         black_box((&mut output, &mut view));

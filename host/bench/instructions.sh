@@ -1,11 +1,25 @@
 #!/bin/sh
 # Prints how many instructions a call of the library takes, counted by
 # valgrind: the difference of two runs by the difference of their calls. What
-# the caller's loop takes, some twenty, is among them.
+# the caller's loop takes, some twenty, is among them. `copy` is a plain copy of
+# the message (memcpy).
+#
+# The second table holds a move of a message with a checksum to what it cannot do
+# without. The moved bytes have a checksum of their own, which is worked out over
+# all of them; forward copies the old one, or refreshes it. So `anew` is a
+# forward that works it out as well: what forward takes, and what reading takes
+# more for the message with its checksum than without. `more` is what the move
+# takes beyond that, in plain copies and in the library's `own`, which is what
+# forward takes more than read.
 set -eu
 cd "$(dirname "$0")/.."
 cargo build --quiet --release --example instructions
 program=${CARGO_TARGET_DIR:-target}/release/examples/instructions
+
+# The C library copies many bytes by one instruction that repeats itself, which
+# counts once for each byte: here it shall take them by words.
+GLIBC_TUNABLES=glibc.cpu.x86_rep_movsb_threshold=1000000
+export GLIBC_TUNABLES
 
 # All instructions of a run: the call, the message, how many calls.
 counted() {
@@ -20,8 +34,31 @@ one() {
     echo $(((many - few) / 100))
 }
 
-printf '%-14s%7s%10s%10s%10s\n' message bytes read forward cleared
-"$program" | while read -r name bytes; do
-    printf '%-14s%7s%10s%10s%10s\n' "$name" "$bytes" \
-        "$(one read "$name")" "$(one forward "$name")" "$(one cleared "$name")"
+sealed=$(mktemp)
+trap 'rm -f "$sealed"' EXIT
+printf '%-14s%7s%10s%10s%10s%10s%8s\n' message bytes read forward cleared move copy
+"$program" | while read -r name bytes checksum; do
+    read=$(one read "$name")
+    forward=$(one forward "$name")
+    cleared=$(one cleared "$name")
+    move=$(one move "$name")
+    copy=$(one copy "$name")
+    printf '%-14s%7s%10s%10s%10s%10s%8s\n' \
+        "$name" "$bytes" "$read" "$forward" "$cleared" "$move" "$copy"
+    if [ "$checksum" = sealed ]; then
+        anew=$((forward + read - $(one bare "$name")))
+        echo "$name $bytes $anew $move $copy $((forward - read))" >> "$sealed"
+    fi
 done
+echo
+awk '
+    BEGIN {
+        printf "%-14s%7s%10s%10s%10s%8s%8s%10s%10s\n",
+            "message", "bytes", "anew", "move", "more", "copy", "own", "more/copy", "more/own"
+    }
+    {
+        more = $4 - $3
+        printf "%-14s%7d%10d%10d%10d%8d%8d%10.2f%10.2f\n",
+            $1, $2, $3, $4, more, $5, $6, more / $5, more / $6
+    }
+' "$sealed"

@@ -50,6 +50,7 @@ fn main() {
         measure_forward(item);
         measure_write(item);
         measure_append(item);
+        measure_move(item);
     }
     println!();
     println!(
@@ -69,7 +70,7 @@ fn check(item: &Item) {
     let other = plain::read(PLAIN_HOUSE, &item.message).expect("accepted");
     assert_eq!(view.length, other.length);
     assert_eq!(view.elements, other.elements);
-    assert_eq!(view.sequences().len(), other.sequence_count);
+    assert_eq!(view.sections().len(), other.used);
 
     let mut one = vec![0; MAX_LENGTH];
     let mut two = vec![0; MAX_LENGTH];
@@ -82,6 +83,10 @@ fn check(item: &Item) {
     let (identifier, documents) = (&item.identifier, &item.documents);
     relay::append(&HOUSE, &item.shorter, identifier, documents, &mut one).expect("accepted");
     plain::append(PLAIN_HOUSE, &item.shorter, identifier, documents, &mut two).expect("accepted");
+    assert!(one == two);
+    let behind = item.behind;
+    relay::move_body(&HOUSE, &item.message, behind, &mut one).expect("accepted");
+    plain::move_body(PLAIN_HOUSE, &item.message, behind, &mut two).expect("accepted");
     assert!(one == two);
 }
 
@@ -185,6 +190,30 @@ fn measure_append(item: &Item) {
     ]);
     let length = message.len() + 6 + identifier.len() + documents.len();
     print_row(item.name, length, "append", times);
+}
+
+/// Moves the body behind all sequences.
+fn measure_move(item: &Item) {
+    let (message, behind) = (&item.message, item.behind);
+    let mut view = [0; VIEW_NUMBERS];
+    let [mut one, mut two, mut three] = outputs();
+    let times = medians([
+        &mut || {
+            let message = black_box(message);
+            let result = ffi::move_body(HOUSE.bits, 1, message, behind, &mut one, &mut view);
+            assert_eq!(result, 0);
+            black_box((&mut one, &mut view));
+        },
+        &mut || {
+            let view = relay::move_body(&HOUSE, black_box(message), behind, &mut two);
+            black_box((view.is_ok(), &mut two));
+        },
+        &mut || {
+            let view = plain::move_body(PLAIN_HOUSE, black_box(message), behind, &mut three);
+            black_box((view.is_ok(), &mut three));
+        },
+    ]);
+    print_row(item.name, message.len(), "move", times);
 }
 
 /// A plain copy and a checksum pass over the message.

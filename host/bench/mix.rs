@@ -19,6 +19,8 @@ pub struct Item {
     pub documents: Vec<u8>,
     /// All documents of the message back to back.
     pub all_documents: Vec<u8>,
+    /// How many sequences the body, which stands first, moves behind: all.
+    pub behind: u32,
 }
 
 /// The mix: ping, command, insert, large insert with a checksum.
@@ -172,6 +174,7 @@ fn without_sequences(name: &'static str, body: Vec<u8>) -> Item {
         body,
         identifier: b"documents".to_vec(),
         documents: record(&ENGLISH, 1),
+        behind: 0,
     }
 }
 
@@ -230,6 +233,7 @@ fn insert(name: &'static str, words: &Words, sequences: usize, records: usize, f
         identifier: identifier(sequences - 1),
         all_documents: [body, run.repeat(sequences)].concat(),
         documents: run,
+        behind: sequences as u32,
     }
 }
 

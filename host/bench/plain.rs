@@ -10,6 +10,7 @@ use std::collections::HashSet;
 
 pub const MAX_LENGTH: usize = 49_152;
 pub const MAX_SEQUENCES: usize = 16;
+pub const MAX_SECTIONS: usize = MAX_SEQUENCES + 1;
 const MAX_LEVELS: usize = 32;
 const MAX_ELEMENTS: usize = 4_096;
 
@@ -22,20 +23,30 @@ pub struct View {
     pub request_id: i32,
     pub response_to: i32,
     pub flags: u32,
-    pub body_start: usize,
-    pub body_length: usize,
-    pub sequence_count: usize,
     pub elements: usize,
-    pub sequences: [Sequence; MAX_SEQUENCES],
+    /// How many sections there are, and which of them is the body.
+    pub used: usize,
+    pub body: usize,
+    pub sections: [Section; MAX_SECTIONS],
 }
 
 #[derive(Clone, Copy, Debug, Default, PartialEq, Eq)]
-pub struct Sequence {
-    pub identifier_start: usize,
-    pub identifier_length: usize,
-    pub documents_start: usize,
-    pub documents_end: usize,
-    pub documents: usize,
+pub enum Section {
+    #[default]
+    None,
+    Body(Part),
+    Sequence {
+        identifier: Part,
+        documents: Part,
+        number: usize,
+    },
+}
+
+/// Bytes of the message from a place to another.
+#[derive(Clone, Copy, Debug, Default, PartialEq, Eq)]
+pub struct Part {
+    pub start: usize,
+    pub end: usize,
 }
 
 #[derive(Clone, Copy)]
@@ -249,37 +260,39 @@ impl<'a> Reader<'a> {
 
     fn sections(&mut self, edition: Edition, view: &mut View) -> Result<(), Refused> {
         let end = self.bytes.len();
+        let mut has_body = false;
         let mut at = 20;
         while at < end {
             match self.bytes[at] {
                 0 => {
-                    if view.body_start != 0 {
+                    if has_body {
                         return Err((11, at));
                     }
-                    let after = self.document(at + 1, end, 1, true)?;
-                    view.body_start = at + 1;
-                    view.body_length = after - (at + 1);
-                    at = after;
+                    has_body = true;
+                    let start = at + 1;
+                    at = self.document(start, end, 1, true)?;
+                    view.body = view.used;
+                    view.sections[view.used] = Section::Body(Part { start, end: at });
+                    view.used += 1;
                 }
                 1 if edition.sequences => {
-                    if view.sequence_count == MAX_SEQUENCES {
+                    if view.used - usize::from(has_body) == MAX_SEQUENCES {
                         return Err((14, at));
                     }
-                    let sequence = self.sequence(at + 1)?;
-                    view.sequences[view.sequence_count] = sequence;
-                    view.sequence_count += 1;
-                    at = sequence.documents_end;
+                    (view.sections[view.used], at) = self.sequence(at + 1)?;
+                    view.used += 1;
                 }
                 _ => return Err((10, at)),
             }
         }
-        if view.body_start == 0 {
+        if !has_body {
             return Err((22, end));
         }
         Ok(())
     }
 
-    fn sequence(&mut self, at: usize) -> Result<Sequence, Refused> {
+    /// Reads a sequence from its size on; answers the place after it too.
+    fn sequence(&mut self, at: usize) -> Result<(Section, usize), Refused> {
         let left = self.bytes.len() - at;
         if left < 4 {
             return Err((12, at));
@@ -295,14 +308,16 @@ impl<'a> Reader<'a> {
             _ => return Err((13, start)),
         };
         utf8_at(self.bytes, start, zero)?;
-        let documents = self.documents(zero + 1, end)?;
-        Ok(Sequence {
-            identifier_start: start,
-            identifier_length: zero - start,
-            documents_start: zero + 1,
-            documents_end: end,
-            documents,
-        })
+        let number = self.documents(zero + 1, end)?;
+        let sequence = Section::Sequence {
+            identifier: Part { start, end: zero },
+            documents: Part {
+                start: zero + 1,
+                end,
+            },
+            number,
+        };
+        Ok((sequence, end))
     }
 
     /// Reads documents that stand back to back; answers how many.
@@ -462,9 +477,12 @@ impl<'a> Reader<'a> {
     }
 
     fn identifiers_differ(&mut self, view: &View) -> Result<(), Refused> {
-        for sequence in &view.sequences[..view.sequence_count] {
-            let start = sequence.identifier_start;
-            let text = &self.bytes[start..start + sequence.identifier_length];
+        for section in &view.sections[..view.used] {
+            let Section::Sequence { identifier, .. } = section else {
+                continue;
+            };
+            let start = identifier.start;
+            let text = &self.bytes[start..identifier.end];
             if self.has_name(self.names.len(), text) {
                 return Err((24, start));
             }
@@ -474,7 +492,7 @@ impl<'a> Reader<'a> {
     }
 }
 
-// ----------------------------------------------- forward, write and append
+// ----------------------------------------- forward, write, append and move
 
 pub fn forward(edition: Edition, message: &[u8], output: &mut [u8]) -> Result<View, Refused> {
     let view = read(edition, message)?;
@@ -534,16 +552,17 @@ pub fn write(
     if flags & 1 != 0 {
         sign(output);
     }
-    Ok(View {
+    let mut view = View {
         length,
         request_id,
         response_to,
         flags,
-        body_start: 21,
-        body_length: body.len(),
         elements: reader.elements,
+        used: 1,
         ..View::default()
-    })
+    };
+    view.sections[0] = Section::Body(Part { start: 21, end });
+    Ok(view)
 }
 
 /// Checks the message and then the new documents where they lie, and then
@@ -560,7 +579,7 @@ pub fn append(
     if !edition.sequences {
         return Err((10, end));
     }
-    if view.sequence_count == MAX_SEQUENCES {
+    if view.used == MAX_SECTIONS {
         return Err((14, end));
     }
     if identifier.is_empty() || identifier.contains(&0) {
@@ -579,7 +598,7 @@ pub fn append(
     let start = end + 6 + identifier.len();
     let mut reader = Reader::new(documents);
     reader.elements = old.elements;
-    let count = reader
+    let number = reader
         .documents(0, documents.len())
         .map_err(|(number, place)| (number, place + start))?;
     if old.has_name(old.names.len(), identifier) {
@@ -598,13 +617,99 @@ pub fn append(
     }
     view.length = length;
     view.elements = reader.elements;
-    view.sequences[view.sequence_count] = Sequence {
-        identifier_start: end + 5,
-        identifier_length: identifier.len(),
-        documents_start: start,
-        documents_end: start + documents.len(),
-        documents: count,
+    view.sections[view.used] = Section::Sequence {
+        identifier: Part {
+            start: end + 5,
+            end: start - 1,
+        },
+        documents: Part {
+            start,
+            end: start + documents.len(),
+        },
+        number,
     };
-    view.sequence_count += 1;
+    view.used += 1;
     Ok(view)
+}
+
+/// Writes the message with its body behind so many of its sequences, section by
+/// section.
+pub fn move_body(
+    edition: Edition,
+    message: &[u8],
+    behind: u32,
+    output: &mut [u8],
+) -> Result<View, Refused> {
+    let mut view = read(edition, message)?;
+    let behind = behind as usize;
+    if behind >= view.used {
+        return Err((28, 0));
+    }
+    let Some(output) = output.get_mut(..view.length) else {
+        return Err((25, 0));
+    };
+    if behind > view.body {
+        view.sections[view.body..=behind].rotate_left(1);
+    } else {
+        view.sections[behind..=view.body].rotate_right(1);
+    }
+    view.body = behind;
+    output[..16].copy_from_slice(&message[..16]);
+    output[16..20].copy_from_slice(&view.flags.to_le_bytes());
+    let mut at = 20;
+    for section in &mut view.sections[..view.used] {
+        let own = section.whole();
+        let after = at + (own.end - own.start);
+        output[at..after].copy_from_slice(&message[own.start..own.end]);
+        section.shift(own.start, at);
+        at = after;
+    }
+    if view.flags & 1 != 0 {
+        sign(output);
+    }
+    Ok(view)
+}
+
+impl Section {
+    /// The section from its kind byte on.
+    fn whole(&self) -> Part {
+        match self {
+            Section::None => Part::default(),
+            Section::Body(part) => Part {
+                start: part.start - 1,
+                end: part.end,
+            },
+            Section::Sequence {
+                identifier,
+                documents,
+                ..
+            } => Part {
+                start: identifier.start - 5,
+                end: documents.end,
+            },
+        }
+    }
+
+    /// Shows the section at another place.
+    fn shift(&mut self, from: usize, to: usize) {
+        match self {
+            Section::None => {}
+            Section::Body(part) => part.shift(from, to),
+            Section::Sequence {
+                identifier,
+                documents,
+                ..
+            } => {
+                identifier.shift(from, to);
+                documents.shift(from, to);
+            }
+        }
+    }
+}
+
+impl Part {
+    fn shift(&mut self, from: usize, to: usize) {
+        self.start = self.start - from + to;
+        self.end = self.end - from + to;
+    }
 }

@@ -181,7 +181,8 @@ fn measure_forward(name: &str, message: &[u8]) {
         &mut || forward(relay_forward, &some, two),
         &mut || forward(BEFORE, &some, three),
     ]);
-    assert!(one == two && two == three && one.0.starts_with(&none));
+    // An older archive may show another view.
+    assert!(one == two && two.0 == three.0 && one.0.starts_with(&none));
     let bytes = none.len();
     print!("{name:<14}{bytes:>7}{plain:>14.1}{cleared:>12.1}");
     if cfg!(before) {

@@ -1,7 +1,7 @@
 /*
  * Reads the PING message, forwards it with a flag bit that the relay does not
- * know, appends a document sequence to it, writes a message from its body and
- * shows two refusals.
+ * know, appends a document sequence to it, moves the body behind that, writes a
+ * message from the body and shows three refusals.
  *
  *     gcc -std=c99 -Wall -Wextra -Werror -I.. relay.c \
  *         ../../target/staticlib/librelay_c.a -o relay
@@ -24,26 +24,36 @@ static uint32_t document_length(const uint8_t *document)
            (uint32_t)document[2] << 16 | (uint32_t)document[3] << 24;
 }
 
+static void print_section(const struct relay_entry *entry, const uint8_t *message)
+{
+    int64_t at = entry->start;
+    switch (entry->kind) {
+    case RELAY_BODY:
+        printf("  body at %" PRId64 ", length %" PRId64 "\n", at, entry->length);
+        break;
+    case RELAY_SEQUENCE:
+        printf("  sequence %.*s: documents %" PRId64 "\n",
+               (int)entry->identifier_length,
+               (const char *)message + entry->identifier_start,
+               entry->documents);
+        while (at < entry->start + entry->length) {
+            uint32_t length = document_length(message + at);
+            printf("    at %" PRId64 ", length %" PRIu32 "\n", at, length);
+            at += length;
+        }
+        break;
+    }
+}
+
 static void print_view(const struct relay_view *view, const uint8_t *message)
 {
     printf("  length %" PRId64 ", request %" PRId64 ", response to %" PRId64
            ", flags %" PRId64 "\n",
            view->length, view->request_id, view->response_to, view->flags);
-    printf("  body at %" PRId64 ", length %" PRId64 "; elements %" PRId64 "\n",
-           view->body_start, view->body_length, view->elements);
-    for (int64_t i = 0; i < view->sequence_count; i++) {
-        const struct relay_sequence *sequence = &view->sequences[i];
-        int64_t at = sequence->documents_start;
-        printf("  sequence %.*s: documents %" PRId64 "\n",
-               (int)sequence->identifier_length,
-               (const char *)message + sequence->identifier_start,
-               sequence->documents);
-        while (at < sequence->documents_end) {
-            uint32_t length = document_length(message + at);
-            printf("    at %" PRId64 ", length %" PRIu32 "\n", at, length);
-            at += length;
-        }
-    }
+    printf("  elements %" PRId64 ", sequences %" PRIu32 "\n",
+           view->elements, relay_sequence_count(view));
+    for (int i = 0; i < RELAY_MAX_SECTIONS; i++)
+        print_section(&view->entries[i], message);
 }
 
 static void print_refusal(const char *what, uint64_t result)
@@ -55,7 +65,7 @@ static void print_refusal(const char *what, uint64_t result)
 
 int main(void)
 {
-    static uint8_t output[RELAY_MAX_LENGTH];
+    static uint8_t output[RELAY_MAX_LENGTH], moved[RELAY_MAX_LENGTH];
     static const uint8_t two_documents[16] = {
         5, 0, 0, 0, 0, /* {} */
         11, 0, 0, 0, 0x08, 'd', 'r', 'y', 0, 1, 0 /* {"dry": true} */};
@@ -96,6 +106,17 @@ int main(void)
     printf("append\n");
     print_view(&view, output);
 
+    result = relay_move(RELAY_HOUSE_BITS, 1, output, sizeof output,
+                        relay_sequence_count(&view),
+                        moved, sizeof moved, RELAY_VIEW(&view));
+    if (result != RELAY_ACCEPTED) {
+        print_refusal("move", result);
+        return 1;
+    }
+    printf("move\n");
+    print_view(&view, moved);
+    printf("  body behind sequences: %" PRIu32 "\n", relay_behind(&view));
+
     result = relay_write(RELAY_HOUSE_BITS, 1, -1, 7, RELAY_CHECKSUM_PRESENT,
                          PING + 21, 15, output, sizeof output,
                          RELAY_VIEW(&view));
@@ -111,6 +132,11 @@ int main(void)
                           (const uint8_t *)"ping", 4, NULL, 0,
                           output, sizeof output, RELAY_VIEW(&view));
     print_refusal("append", result);
+
+    /* PING has no sequence. */
+    result = relay_move(RELAY_HOUSE_BITS, 1, PING, sizeof PING, 1,
+                        output, sizeof output, RELAY_VIEW(&view));
+    print_refusal("move", result);
 
     result = relay_read(RELAY_HOUSE_BITS, 1, NULL, 0, RELAY_VIEW(&view));
     print_refusal("read", result);

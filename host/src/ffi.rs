@@ -57,6 +57,18 @@ pub mod c {
             view: *mut i64,
             view_len: usize,
         ) -> u64;
+
+        pub fn relay_move(
+            bits: u32,
+            sequences: u8,
+            message: *const u8,
+            message_len: usize,
+            behind: u32,
+            output: *mut u8,
+            output_len: usize,
+            view: *mut i64,
+            view_len: usize,
+        ) -> u64;
     }
 }
 
@@ -149,6 +161,30 @@ pub fn append(
             identifier.len(),
             documents.as_ptr(),
             documents.len(),
+            output.as_mut_ptr(),
+            output.len(),
+            view.as_mut_ptr(),
+            view.len(),
+        )
+    }
+}
+
+/// Calls `relay_move`.
+pub fn move_body(
+    bits: u32,
+    sequences: u8,
+    message: &[u8],
+    behind: u32,
+    output: &mut [u8],
+    view: &mut [i64],
+) -> u64 {
+    unsafe {
+        c::relay_move(
+            bits,
+            sequences,
+            message.as_ptr(),
+            message.len(),
+            behind,
             output.as_mut_ptr(),
             output.len(),
             view.as_mut_ptr(),

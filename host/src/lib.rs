@@ -1,4 +1,4 @@
-//! Reads, forwards, writes and extends MongoDB OP_MSG messages.
+//! Reads, forwards, writes, extends and reorders MongoDB OP_MSG messages.
 //!
 //! The work is done by a library whose rules are proved; this crate is a safe
 //! cover over its C interface. Every call ends with an answer: the [`View`] of
@@ -8,7 +8,7 @@
 //! message stay as they were.
 //!
 //! ```
-//! use relay::{append, read, Edition};
+//! use relay::{append, move_body, read, Edition, Section};
 //!
 //! let ping = b"\x24\0\0\0\x07\0\0\0\0\0\0\0\xDD\x07\0\0\0\0\0\0\
 //!     \0\x0F\0\0\0\x10ping\0\x01\0\0\0\0";
@@ -20,7 +20,15 @@
 //! let empty_document = b"\x05\0\0\0\0";
 //! let view = append(&Edition::HOUSE, ping, b"d", empty_document, &mut output)?;
 //! assert_eq!(view.length, 48);
-//! assert_eq!(&output[view.sequences()[0].identifier()], b"d");
+//!
+//! let mut moved = [0; 64];
+//! let view = move_body(&Edition::HOUSE, &output, 1, &mut moved)?;
+//! let sections: Vec<Section> = view.sections().collect();
+//! let [Section::Sequence(sequence), Section::Body(body)] = &sections[..] else {
+//!     panic!("the body behind one sequence");
+//! };
+//! assert_eq!(&moved[sequence.identifier.clone()], b"d");
+//! assert_eq!(moved[body.clone()], ping[21..]);
 //! # Ok::<(), relay::Refusal>(())
 //! ```
 
@@ -33,7 +41,7 @@ mod refusal;
 mod view;
 
 pub use refusal::Refusal;
-pub use view::{Sequence, View, VIEW_NUMBERS};
+pub use view::{Section, Sequence, View, VIEW_NUMBERS};
 
 /// The version of the crate and of `relay.h`.
 pub const VERSION: &str = env!("CARGO_PKG_VERSION");
@@ -50,6 +58,9 @@ pub const MAX_LEVELS: usize = 32;
 
 /// The most document sequences in a message.
 pub const MAX_SEQUENCES: usize = 16;
+
+/// The most sections in a message: a body and its document sequences.
+pub const MAX_SECTIONS: usize = MAX_SEQUENCES + 1;
 
 /// The flag bits and section kinds that a relay knows.
 #[derive(Clone, Copy, Debug, PartialEq, Eq, Hash)]
@@ -196,6 +207,51 @@ pub fn append(
             message,
             identifier,
             documents,
+            output,
+            view,
+        )
+    })
+}
+
+/// Forwards a message to the output with its body behind the first `behind` of
+/// its sequences. Each section keeps its own bytes, and the sequences their
+/// order; where bit 0 is set, there is a new checksum. The view is that of the
+/// new message.
+///
+/// Where the message has fewer sequences, the refusal is
+/// [`Refusal::MoveTooFar`]. Else the output must have room for the message, as
+/// in [`forward`].
+///
+/// ```
+/// use relay::{append, move_body, write, Edition, Refusal};
+///
+/// let mut message = [0; 26];
+/// write(&Edition::HOUSE, 1, 0, 0, b"\x05\0\0\0\0", &mut message)?;
+/// let mut longer = [0; 36];
+/// let view = append(&Edition::HOUSE, &message, b"runs", b"", &mut longer)?;
+/// assert_eq!((view.behind(), view.body()), (0, 21..26));
+///
+/// let mut output = [0; 36];
+/// let view = move_body(&Edition::HOUSE, &longer, 1, &mut output)?;
+/// assert_eq!((view.behind(), view.body()), (1, 31..36));
+/// assert_eq!(output[20..30], longer[26..36]);
+///
+/// let refused = move_body(&Edition::HOUSE, &longer, 2, &mut output);
+/// assert_eq!(refused, Err(Refusal::MoveTooFar(0)));
+/// # Ok::<(), relay::Refusal>(())
+/// ```
+pub fn move_body(
+    edition: &Edition,
+    message: &[u8],
+    behind: u32,
+    output: &mut [u8],
+) -> Result<View, Refusal> {
+    answer(|view| {
+        ffi::move_body(
+            edition.bits,
+            edition.sequences.into(),
+            message,
+            behind,
             output,
             view,
         )

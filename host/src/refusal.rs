@@ -35,7 +35,7 @@ macro_rules! refusals {
                 }
             }
 
-            /// The number, 1 to 25 or 27.
+            /// The number: 1 to 25, 27 or 28.
             pub fn number(&self) -> u32 {
                 match self {
                     $(Refusal::$name(_) => $number,)*
@@ -84,8 +84,9 @@ refusals! {
     22 NoBody "message has no body",
     23 NameTwice "body has a top-level name that equals an earlier one",
     24 IdentifierClash "sequence's identifier is a top-level name of the body or an earlier identifier",
-    25 OutputShort "output is too short for the message, or view for its 88 numbers",
+    25 OutputShort "output is too short for the message, or view for its 107 numbers",
     27 TextNotUtf8 "name, identifier, string or part of a regular expression is not UTF-8",
+    28 MoveTooFar "body is to move behind more sequences than the message has",
 }
 
 impl fmt::Display for Refusal {
@@ -124,12 +125,12 @@ mod tests {
     use super::*;
 
     #[test]
-    fn every_number_from_1_to_25_and_27_and_no_other_is_a_refusal() {
-        for number in (1..=25).chain([27]) {
+    fn every_number_from_1_to_25_27_and_28_and_no_other_is_a_refusal() {
+        for number in (1..=25).chain([27, 28]) {
             let refusal = Refusal::new(number, 7).expect("a refusal");
             assert_eq!((refusal.number(), refusal.place()), (number, 7));
         }
-        for number in [0, 26, 28, u32::MAX] {
+        for number in [0, 26, 29, u32::MAX] {
             assert_eq!(Refusal::new(number, 7), None);
         }
     }

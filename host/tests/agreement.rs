@@ -20,7 +20,7 @@ use common::bson::*;
 use common::damage::damage;
 use common::generate::*;
 use common::random::Random;
-use common::reference::{self, Edition, Refused, View, MAX_MESSAGE, VIEW_NUMBERS};
+use common::reference::{self, Edition, Refused, View, MAX_MESSAGE, MAX_SECTIONS, VIEW_NUMBERS};
 use common::text::{any_text, faulty_text, Faults};
 use common::{message::get_u32, setting};
 use relay::ffi;
@@ -32,7 +32,7 @@ use std::thread;
 /// odd, so that no output stands at an even place.
 const GUARD: usize = 9;
 
-const CALLS: [&str; 4] = ["read", "forward", "write", "append"];
+const CALLS: [&str; 5] = ["read", "forward", "write", "append", "move"];
 
 /// A call with its inputs.
 enum Call {
@@ -52,6 +52,10 @@ enum Call {
         message: Vec<u8>,
         identifier: Vec<u8>,
         documents: Vec<u8>,
+    },
+    Move {
+        message: Vec<u8>,
+        behind: u32,
     },
 }
 
@@ -80,7 +84,7 @@ struct Outcome {
 
 fn any_case(random: &mut Random) -> Case {
     let edition = any_edition(random);
-    let call = match random.below(4) {
+    let call = match random.below(5) {
         0 => Call::Read {
             message: any_message(random, &edition, 60),
         },
@@ -88,7 +92,8 @@ fn any_case(random: &mut Random) -> Case {
             message: any_message(random, &edition, 30),
         },
         2 => any_write(random, &edition),
-        _ => any_append(random, &edition),
+        3 => any_append(random, &edition),
+        _ => any_move(random, &edition),
     };
     let sequences = if edition.sequences {
         random.pick(&[1, 1, 1, 2, 128, 255])
@@ -198,6 +203,12 @@ fn any_append(random: &mut Random, edition: &Edition) -> Call {
     }
 }
 
+fn any_move(random: &mut Random, edition: &Edition) -> Call {
+    let message = any_message(random, edition, 30);
+    let behind = any_behind(random, edition, &message);
+    Call::Move { message, behind }
+}
+
 fn any_identifier(random: &mut Random, edition: &Edition, message: &[u8]) -> Vec<u8> {
     match random.below(25) {
         0 => Vec::new(),
@@ -216,10 +227,10 @@ fn any_identifier(random: &mut Random, edition: &Edition, message: &[u8]) -> Vec
 /// The identifier of the last sequence, or else the first name in the body.
 fn taken_identifier(edition: &Edition, message: &[u8]) -> Option<Vec<u8>> {
     let view = reference::read(edition, message).ok()?;
-    if let Some(sequence) = view.sequences.last() {
+    if let Some(sequence) = view.sequences().last() {
         return Some(message[sequence.identifier.clone()].to_vec());
     }
-    let name = &message[view.body.start + 5..view.body.end];
+    let name = &message[view.body().start + 5..view.body().end];
     let zero = name.iter().position(|&byte| byte == 0)?;
     (zero > 0).then(|| name[..zero].to_vec())
 }
@@ -271,7 +282,7 @@ fn any_room(random: &mut Random, needed: usize) -> usize {
 
 fn any_view_length(random: &mut Random) -> usize {
     match random.below(20) {
-        0 => random.pick(&[0, 1, 8, 86, 87, 87, 87]),
+        0 => random.pick(&[0, 5, 11, 88, 106, 106, 106]),
         1..=5 => VIEW_NUMBERS + random.between(1, 12),
         _ => VIEW_NUMBERS,
     }
@@ -284,6 +295,7 @@ impl Call {
             Call::Forward { .. } => 1,
             Call::Write { .. } => 2,
             Call::Append { .. } => 3,
+            Call::Move { .. } => 4,
         }
     }
 
@@ -291,7 +303,7 @@ impl Call {
     fn needed(&self) -> usize {
         match self {
             Call::Read { .. } => 0,
-            Call::Forward { message } => stated_length(message),
+            Call::Forward { message } | Call::Move { message, .. } => stated_length(message),
             Call::Write { flags, body, .. } => 21 + body.len() + 4 * (flags & 1) as usize,
             Call::Append {
                 message,
@@ -304,7 +316,9 @@ impl Call {
     /// The slices that are lent to read from.
     fn inputs(&self) -> Vec<&[u8]> {
         match self {
-            Call::Read { message } | Call::Forward { message } => vec![message],
+            Call::Read { message } | Call::Forward { message } | Call::Move { message, .. } => {
+                vec![message]
+            }
             Call::Write { body, .. } => vec![body],
             Call::Append {
                 message,
@@ -394,6 +408,9 @@ impl Case {
                 identifier,
                 documents,
             } => reference::append(&edition, message, identifier, documents, self.room),
+            Call::Move { message, behind } => {
+                reference::move_body(&edition, message, *behind, self.room)
+            }
         }
     }
 
@@ -450,6 +467,9 @@ impl Case {
             Call::Append { .. } => {
                 ffi::append(bits, sequences, input(0), input(1), input(2), output, view)
             }
+            Call::Move { behind, .. } => {
+                ffi::move_body(bits, sequences, input(0), behind, output, view)
+            }
         }
     }
 
@@ -484,6 +504,10 @@ impl Case {
                 show(&mut text, "message", message);
                 show(&mut text, "identifier", identifier);
                 show(&mut text, "documents", documents);
+            }
+            Call::Move { message, behind } => {
+                let _ = write!(text, "\nbehind {behind}");
+                show(&mut text, "message", message);
             }
         }
         text
@@ -535,7 +559,7 @@ fn first_difference<T: PartialEq>(left: &[T], right: &[T]) -> Option<usize> {
 
 // ------------------------------------------------------------------- tally
 
-const FEATURES: [&str; 8] = [
+const FEATURES: [&str; 15] = [
     "accepted with 49,152 bytes",
     "accepted with 4,096 elements",
     "accepted with 16 sequences",
@@ -544,22 +568,44 @@ const FEATURES: [&str; 8] = [
     "accepted, requestID under 0",
     "forward clears a bit",
     "forward clears a bit and renews a checksum",
+    "move to where the body stands",
+    "move nearer to the front",
+    "move nearer to the end",
+    "move among 16 sequences",
+    "move under a checksum",
+    "move clears a bit",
+    "move clears a bit under a checksum",
 ];
 
-/// The refusals that writing can give; the other calls can give all.
+/// The refusals that writing can give.
 const WRITE_NUMBERS: [usize; 12] = [2, 8, 15, 16, 17, 18, 19, 20, 21, 23, 25, 27];
 
 /// The refusals that there are.
 fn refusals() -> impl Iterator<Item = usize> {
-    (1..=25).chain([27])
+    (1..=25).chain([27, 28])
+}
+
+/// Whether a call can give this refusal: a move can give all.
+fn can_refuse(call: &str, number: usize) -> bool {
+    match call {
+        "move" => true,
+        "write" => WRITE_NUMBERS.contains(&number),
+        _ => number != 28,
+    }
 }
 
 /// How often each answer came.
 #[derive(Default)]
 struct Tally {
     /// For each call: accepted at 0, refused with number n at n.
-    answers: [[u64; 28]; 4],
+    answers: [[u64; 29]; CALLS.len()],
     features: [u64; FEATURES.len()],
+    /// Accepted messages by the place of their body, moved ones where it stood.
+    places: [u64; MAX_SECTIONS],
+    /// Moved ones by its new place.
+    targets: [u64; MAX_SECTIONS],
+    /// 28 where the output or the view is too short as well.
+    far_and_short: u64,
     faults: Faults,
 }
 
@@ -570,6 +616,8 @@ impl Tally {
             Err(refused) => {
                 row[refused.number as usize] += 1;
                 self.faults.note(refused);
+                let short = case.room < case.call.needed() || case.numbers < VIEW_NUMBERS;
+                self.far_and_short += u64::from(refused.number == 28 && short);
             }
             Ok(view) => {
                 row[0] += 1;
@@ -580,19 +628,40 @@ impl Tally {
 
     fn note_features(&mut self, case: &Case, view: &View) {
         let sum = view.flags & 1 == 1;
-        let cleared = match &case.call {
-            Call::Forward { message } => get_u32(message, 16) != view.flags,
+        let cleared = |message: &[u8]| get_u32(message, 16) != view.flags;
+        let forward_clears = match &case.call {
+            Call::Forward { message } => cleared(message),
             _ => false,
         };
+        let last = view.sections.len() - 1;
+        let place = view.behind();
+        let mut stood = place;
+        let mut move_clears = false;
+        let mut moved = false;
+        if let Call::Move { message, .. } = &case.call {
+            let old = reference::read(&case.edition(), message).expect("moved");
+            stood = old.behind();
+            move_clears = cleared(message);
+            moved = true;
+            self.targets[place] += 1;
+        }
+        self.places[stood] += 1;
         let seen = [
             view.length == MAX_MESSAGE,
             view.elements == reference::MAX_ELEMENTS,
-            view.sequences.len() == reference::MAX_SEQUENCES,
-            view.body.start != 21,
+            last == reference::MAX_SEQUENCES,
+            place != 0,
             sum,
             view.request_id < 0,
-            cleared,
-            cleared && sum,
+            forward_clears,
+            forward_clears && sum,
+            moved && place == stood,
+            moved && place < stood,
+            moved && place > stood,
+            place != stood && last == reference::MAX_SEQUENCES,
+            place != stood && sum,
+            move_clears,
+            move_clears && sum,
         ];
         for (count, seen) in self.features.iter_mut().zip(seen) {
             *count += u64::from(seen);
@@ -601,12 +670,12 @@ impl Tally {
 
     fn add(&mut self, other: &Tally) {
         for (row, more) in self.answers.iter_mut().zip(&other.answers) {
-            row.iter_mut().zip(more).for_each(|(sum, n)| *sum += n);
+            add_each(row, more);
         }
-        self.features
-            .iter_mut()
-            .zip(&other.features)
-            .for_each(|(sum, n)| *sum += n);
+        add_each(&mut self.features, &other.features);
+        add_each(&mut self.places, &other.places);
+        add_each(&mut self.targets, &other.targets);
+        self.far_and_short += other.far_and_short;
         self.faults.add(&other.faults);
     }
 
@@ -615,21 +684,30 @@ impl Tally {
     }
 
     fn print(&self) {
-        println!(
-            "{:>8} {:>9} {:>9} {:>9} {:>9} {:>9}",
-            "number", CALLS[0], CALLS[1], CALLS[2], CALLS[3], "all"
-        );
+        print!("{:>8}", "number");
+        for name in CALLS.iter().chain([&"all"]) {
+            print!(" {name:>9}");
+        }
+        println!();
         for number in [0].into_iter().chain(refusals()) {
             let name = match number {
                 0 => "accepted".to_string(),
                 _ => number.to_string(),
             };
-            let [read, forward, write, append] = self.answers.map(|row| row[number]);
-            let all = self.total(number);
-            println!("{name:>8} {read:>9} {forward:>9} {write:>9} {append:>9} {all:>9}");
+            print!("{name:>8}");
+            for row in &self.answers {
+                print!(" {:>9}", row[number]);
+            }
+            println!(" {:>9}", self.total(number));
         }
         for (name, count) in FEATURES.iter().zip(self.features) {
             println!("{count:>9} {name}");
+        }
+        let count = self.far_and_short;
+        println!("{count:>9} refused with 28, output or view too short");
+        println!("{:>8} {:>9} {:>9}", "behind", "stood", "moved to");
+        for (place, (stood, moved)) in self.places.iter().zip(self.targets).enumerate() {
+            println!("{place:>8} {stood:>9} {moved:>9}");
         }
         self.faults.print();
     }
@@ -648,10 +726,7 @@ impl Tally {
             // A text is at many places, so its refusal must come more often.
             let made: u64 = row.iter().sum();
             assert!(row[27] >= made / 200, "{call} refused with 27 too rarely");
-            for number in refusals() {
-                if *call == "write" && !WRITE_NUMBERS.contains(&number) {
-                    continue;
-                }
+            for number in refusals().filter(|&number| can_refuse(call, number)) {
                 let count = row[number];
                 assert!(
                     count >= cases / 10_000,
@@ -662,7 +737,25 @@ impl Tally {
         for (name, count) in FEATURES.iter().zip(self.features) {
             assert!(count >= cases / 2_000, "{name}: {count} times");
         }
+        let count = self.far_and_short;
+        assert!(count >= cases / 2_000, "28 before 25: {count} times");
+        for (place, (stood, moved)) in self.places.iter().zip(self.targets).enumerate() {
+            assert!(
+                *stood >= cases / 2_000,
+                "the body stood behind {place} sequences {stood} times"
+            );
+            assert!(
+                moved >= cases / 5_000,
+                "the body moved behind {place} sequences {moved} times"
+            );
+        }
         self.faults.check(cases / 10_000);
+    }
+}
+
+fn add_each(sums: &mut [u64], more: &[u64]) {
+    for (sum, more) in sums.iter_mut().zip(more) {
+        *sum += more;
     }
 }
 

@@ -1,8 +1,8 @@
 //! Compiles C programs against `relay.h` and the archive, as C and as C++, runs
 //! them and compares what they print.
 
-use relay::{Edition, Refusal, MAX_ELEMENTS, MAX_LENGTH, MAX_LEVELS, MAX_SEQUENCES};
-use relay::{VERSION, VIEW_NUMBERS};
+use relay::{Edition, Refusal, VERSION, VIEW_NUMBERS};
+use relay::{MAX_ELEMENTS, MAX_LENGTH, MAX_LEVELS, MAX_SECTIONS, MAX_SEQUENCES};
 use std::fs;
 use std::path::{Path, PathBuf};
 use std::process::Command;
@@ -53,6 +53,22 @@ fn the_example_prints_what_it_should() {
     }
 }
 
+/// What the header's functions shall say of a body behind some of so many
+/// sequences: where it stands, and where each sequence does, up to two too many
+/// of a full message.
+fn sections(behind: usize, count: usize) -> String {
+    let mut line = format!("behind {behind} of {count}: body {behind}, sequences");
+    for number in 0..=MAX_SECTIONS {
+        let place = match number {
+            _ if number >= count => -1,
+            _ if number < behind => number as i64,
+            _ => number as i64 + 1,
+        };
+        line += &format!(" {place}");
+    }
+    line
+}
+
 #[test]
 fn the_header_says_what_the_crate_says() {
     let mut expected = vec![
@@ -61,6 +77,7 @@ fn the_header_says_what_the_crate_says() {
         format!("max_elements {MAX_ELEMENTS}"),
         format!("max_levels {MAX_LEVELS}"),
         format!("max_sequences {MAX_SEQUENCES}"),
+        format!("max_sections {MAX_SECTIONS}"),
         format!("house_bits {}", Edition::HOUSE.bits),
         format!("view_numbers {VIEW_NUMBERS}"),
     ];
@@ -69,25 +86,33 @@ fn the_header_says_what_the_crate_says() {
         "request_id",
         "response_to",
         "flags",
-        "body_start",
-        "body_length",
-        "sequence_count",
         "elements",
-        "sequences",
+        "entries",
     ];
-    let sequence = [
+    let entry = [
+        "kind",
         "identifier_start",
         "identifier_length",
-        "documents_start",
-        "documents_end",
+        "start",
+        "length",
         "documents",
     ];
-    for fields in [&view[..], &sequence[..]] {
-        for (place, name) in fields.iter().enumerate() {
-            expected.push(format!("{name} {place}"));
+    let places = |fields: &[&str; 6]| {
+        let places = fields.iter().enumerate();
+        places
+            .map(|(place, name)| format!("{name} {place}"))
+            .collect::<Vec<_>>()
+    };
+    expected.extend(places(&view));
+    expected.push("second entry 11".to_string());
+    expected.extend(places(&entry));
+    expected.push("kinds 0 1 -1".to_string());
+    for count in 0..=MAX_SEQUENCES {
+        for behind in 0..=count {
+            expected.push(sections(behind, count));
         }
     }
-    for number in 1..=28 {
+    for number in 1..=29 {
         let refusal = Refusal::new(number, 49_151);
         let words = refusal.map_or("no such refusal", |refusal| refusal.words());
         expected.push(format!("{number} at 49151: {words}"));

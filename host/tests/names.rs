@@ -129,7 +129,7 @@ fn compare_read(message: &[u8], expected: &Result<View, Refused>, case: &str) {
     assert!(view == shown, "{case}: the view of read");
 }
 
-/// The three calls that write, on the same message and body.
+/// The four calls that write, on the same message and body.
 fn compare_others(named: &Named, identifier: &[u8], case: &str) {
     let message = &named.message;
     let room = MAX_MESSAGE;
@@ -147,6 +147,11 @@ fn compare_others(named: &Named, identifier: &[u8], case: &str) {
         reference::append(&HOUSE, message, identifier, &EMPTY, room),
         |output, view| ffi::append(HOUSE.bits, 1, message, identifier, &EMPTY, output, view),
         &format!("{case}: append"),
+    );
+    compare_written(
+        reference::move_body(&HOUSE, message, 0, room),
+        |output, view| ffi::move_body(HOUSE.bits, 1, message, 0, output, view),
+        &format!("{case}: move"),
     );
 }
 

@@ -14,27 +14,41 @@ use common::setting;
 use common::text::{any_text, faulty_text, Faults};
 
 fn same_view(plain: &plain::View, view: &View) -> bool {
-    let numbers = view.numbers();
     let head = [
         plain.length as i64,
         i64::from(plain.request_id),
         i64::from(plain.response_to),
         i64::from(plain.flags),
-        plain.body_start as i64,
-        plain.body_length as i64,
-        plain.sequence_count as i64,
         plain.elements as i64,
     ];
-    let rest = plain.sequences.iter().flat_map(|sequence| {
-        [
-            sequence.identifier_start as i64,
-            sequence.identifier_length as i64,
-            sequence.documents_start as i64,
-            sequence.documents_end as i64,
-            sequence.documents as i64,
-        ]
-    });
-    head.into_iter().chain(rest).eq(numbers)
+    let rest = plain.sections.iter().flat_map(section_numbers);
+    let used = plain
+        .sections
+        .iter()
+        .position(|s| *s == plain::Section::None);
+    head.into_iter().chain(rest).eq(view.numbers())
+        && plain.used == used.unwrap_or(plain::MAX_SECTIONS)
+        && plain.body == view.behind()
+}
+
+fn section_numbers(section: &plain::Section) -> [i64; 6] {
+    let start_and_length = |part: &plain::Part| [part.start as i64, (part.end - part.start) as i64];
+    match section {
+        plain::Section::None => [-1, 0, 0, 0, 0, 0],
+        plain::Section::Body(part) => {
+            let [start, length] = start_and_length(part);
+            [0, 0, 0, start, length, 0]
+        }
+        plain::Section::Sequence {
+            identifier,
+            documents,
+            number,
+        } => {
+            let [name, name_length] = start_and_length(identifier);
+            let [start, length] = start_and_length(documents);
+            [1, name, name_length, start, length, *number as i64]
+        }
+    }
 }
 
 fn compare(
@@ -57,12 +71,15 @@ fn compare(
 
 const CASES: u64 = 40_000;
 
-/// How often a text was not UTF-8.
+/// How often a text was not UTF-8, and what moves did.
 #[derive(Default)]
 struct Seen {
-    /// In read, forward, append and write.
-    calls: [u64; 4],
+    /// In read, forward, move, append and write.
+    calls: [u64; 5],
     faults: Faults,
+    /// To another place, and refused with 28.
+    moved: u64,
+    too_far: u64,
 }
 
 impl Seen {
@@ -102,13 +119,25 @@ fn the_plain_reader_agrees_with_the_independent_one() {
         }
         seen.note(0, &expected);
 
-        let answer = plain::forward(known, &message, &mut output);
+        let forwarded = plain::forward(known, &message, &mut output);
         let expected = reference::forward(&edition, &message, room);
         assert!(
-            compare(answer, &expected, &output),
+            compare(forwarded, &expected, &output),
             "seed {seed}, case {case}: forward"
         );
         seen.note(1, &expected);
+
+        let behind = any_behind(random, &edition, &message);
+        output.fill(0xAA);
+        let answer = plain::move_body(known, &message, behind, &mut output);
+        let expected = reference::move_body(&edition, &message, behind, room);
+        assert!(
+            compare(answer, &expected, &output),
+            "seed {seed}, case {case}: move behind {behind}"
+        );
+        seen.note(2, &expected);
+        seen.moved += u64::from(answer.is_ok() && answer != forwarded);
+        seen.too_far += u64::from(answer == Err((28, 0)));
 
         let style = Style {
             faults: random.pick(&[0, 0, 15]),
@@ -127,7 +156,7 @@ fn the_plain_reader_agrees_with_the_independent_one() {
             compare(answer, &expected, &output),
             "seed {seed}, case {case}: append"
         );
-        seen.note(2, &expected);
+        seen.note(3, &expected);
 
         let flags = any_flags(random, &edition);
         output.fill(0xAA);
@@ -142,7 +171,7 @@ fn the_plain_reader_agrees_with_the_independent_one() {
             compare(answer, &expected, &output),
             "seed {seed}, case {case}: write"
         );
-        seen.note(3, &expected);
+        seen.note(4, &expected);
     }
     seen.faults.print();
     assert!(
@@ -151,6 +180,8 @@ fn the_plain_reader_agrees_with_the_independent_one() {
         seen.calls
     );
     seen.faults.check(CASES / 1_000);
+    assert!(seen.moved >= CASES / 20, "moved {} times", seen.moved);
+    assert!(seen.too_far >= CASES / 50, "28 came {} times", seen.too_far);
 }
 
 fn any_message(random: &mut Random, edition: &Edition) -> Vec<u8> {

@@ -1,17 +1,20 @@
 //! What document 00 demands of the calls together, run on random messages:
 //! the round trip, and what two editions make of one message. With it, what
-//! change request 13 says of any chain of relays.
+//! change request 5 says of moved bodies, which the round trip needs where the
+//! body is not first, and change request 13 of any chain of relays.
 //!
 //! RELAY_CASES sets the number of messages (20,000 if not set), RELAY_SEED the
 //! seed.
 
 mod common;
 
+use common::bson::{element, nulls};
 use common::generate::*;
-use common::message::get_u32;
+use common::message::{get_u32, Draft};
 use common::random::Random;
-use common::{reference, setting};
-use relay::{append, forward, read, write, Edition, Refusal, View, MAX_LENGTH};
+use common::{message, reference, setting};
+use relay::{append, forward, move_body, read, write, Edition, Refusal, Section, View};
+use relay::{MAX_LENGTH, MAX_SECTIONS, MAX_SEQUENCES};
 use std::cell::Cell;
 
 fn cases() -> u64 {
@@ -85,6 +88,50 @@ fn forwarded(edition: &Edition, message: &[u8]) -> (View, Vec<u8>) {
     (view, output)
 }
 
+/// What a relay makes of a message with its body behind so many sequences.
+fn moved(edition: &Edition, message: &[u8], behind: u32) -> (View, Vec<u8>) {
+    let mut output = vec![0x55; MAX_LENGTH];
+    let view = move_body(edition, message, behind, &mut output).expect("accepted, with room");
+    output.truncate(view.length);
+    (view, output)
+}
+
+/// A place that the body of such a message can have.
+fn any_place(random: &mut Random, view: &View) -> u32 {
+    random.below(view.sections().len()) as u32
+}
+
+// -------------------------------------------------------------- round trip
+
+/// The message written from the view's body, and appended to with the view's
+/// sequences in order.
+fn rebuilt(edition: &Edition, view: &View, message: &[u8]) -> (View, Vec<u8>) {
+    let mut built = vec![0xAA; MAX_LENGTH];
+    let mut last = write(
+        edition,
+        view.request_id,
+        view.response_to,
+        view.flags,
+        &message[view.body()],
+        &mut built,
+    )
+    .expect("written");
+    for sequence in view.sequences() {
+        let mut longer = vec![0x55; MAX_LENGTH];
+        last = append(
+            edition,
+            &built[..last.length],
+            &message[sequence.identifier],
+            &message[sequence.documents],
+            &mut longer,
+        )
+        .expect("appended");
+        built = longer;
+    }
+    built.truncate(last.length);
+    (last, built)
+}
+
 #[test]
 fn writing_from_a_view_gives_the_message_again() {
     for_cases(4, |random| {
@@ -93,36 +140,241 @@ fn writing_from_a_view_gives_the_message_again() {
         let Ok(view) = read(&edition, &message) else {
             return false;
         };
-        if view.body_start != 21 || get_u32(&message, 16) & !edition.bits != 0 {
+        if view.body().start != 21 || get_u32(&message, 16) & !edition.bits != 0 {
             return false;
         }
-        let mut built = vec![0xAA; MAX_LENGTH];
-        let mut last = write(
-            &edition,
-            view.request_id,
-            view.response_to,
-            view.flags,
-            &message[view.body()],
-            &mut built,
-        )
-        .expect("written");
-        for sequence in view.sequences() {
-            let mut longer = vec![0x55; MAX_LENGTH];
-            last = append(
-                &edition,
-                &built[..last.length],
-                &message[sequence.identifier()],
-                &message[sequence.documents_range()],
-                &mut longer,
-            )
-            .expect("appended");
-            built = longer;
-        }
+        let (last, built) = rebuilt(&edition, &view, &message);
         assert_eq!(last, view);
-        assert!(built[..last.length] == message[..view.length]);
+        assert!(built == message[..view.length]);
         true
     });
 }
+
+#[test]
+fn writing_and_moving_gives_every_message_again() {
+    let places = [const { Cell::new(0) }; MAX_SECTIONS];
+    for_cases(3, |random| {
+        let edition = any_relay(random);
+        let message = any_message(random, &edition);
+        let Ok(view) = read(&edition, &message) else {
+            return false;
+        };
+        if get_u32(&message, 16) & !edition.bits != 0 {
+            return false;
+        }
+        let (_, built) = rebuilt(&edition, &view, &message);
+        let (last, built) = moved(&edition, &built, view.behind());
+        assert_eq!(last, view);
+        assert!(built == message[..view.length]);
+        count(&places[view.behind() as usize]);
+        true
+    });
+    for (behind, places) in places.iter().enumerate() {
+        assert!(places.get() >= cases() / 2_000, "behind {behind}");
+    }
+}
+
+// ------------------------------------------------------------------- moves
+
+#[test]
+fn moving_to_where_the_body_stands_is_forwarding() {
+    for_cases(2, |random| {
+        let edition = any_relay(random);
+        let message = any_message(random, &edition);
+        let Ok(view) = read(&edition, &message) else {
+            return false;
+        };
+        assert!(moved(&edition, &message, view.behind()) == forwarded(&edition, &message));
+        true
+    });
+}
+
+#[test]
+fn moving_twice_is_moving_once() {
+    for_cases(4, |random| {
+        let edition = any_relay(random);
+        let message = any_message(random, &edition);
+        let Ok(view) = read(&edition, &message) else {
+            return false;
+        };
+        let (first, second) = (any_place(random, &view), any_place(random, &view));
+        let (_, output) = moved(&edition, &message, first);
+        assert!(moved(&edition, &output, second) == moved(&edition, &message, second));
+        // Forwarding first is moving too.
+        let (_, output) = forwarded(&edition, &message);
+        assert!(moved(&edition, &output, second) == moved(&edition, &message, second));
+        first != view.behind() && second != first
+    });
+}
+
+#[test]
+fn moving_back_gives_what_forwarding_gives() {
+    for_cases(4, |random| {
+        let edition = any_relay(random);
+        let message = any_message(random, &edition);
+        let Ok(view) = read(&edition, &message) else {
+            return false;
+        };
+        let away = any_place(random, &view);
+        let (_, output) = moved(&edition, &message, away);
+        assert!(moved(&edition, &output, view.behind()) == forwarded(&edition, &message));
+        away != view.behind()
+    });
+}
+
+/// A section as a view shows it: its own bytes from the kind byte on, and what
+/// stands at the places that are shown.
+#[derive(Debug, PartialEq)]
+struct Shown<'a> {
+    own: &'a [u8],
+    identifier: Option<&'a [u8]>,
+    documents: &'a [u8],
+    count: usize,
+}
+
+/// The sections of a message, which fill it from the flag word to the end.
+fn shown<'a>(view: &View, message: &'a [u8]) -> Vec<Shown<'a>> {
+    let mut at = 20;
+    let mut all = Vec::new();
+    for section in view.sections() {
+        let (end, section) = match section {
+            Section::Body(document) => {
+                assert_eq!((document.start, message[at]), (at + 1, 0));
+                let shown = Shown {
+                    own: &message[at..document.end],
+                    identifier: None,
+                    documents: &message[document.clone()],
+                    count: 1,
+                };
+                (document.end, shown)
+            }
+            Section::Sequence(sequence) => {
+                assert_eq!((sequence.identifier.start, message[at]), (at + 5, 1));
+                let end = sequence.documents.end;
+                let shown = Shown {
+                    own: &message[at..end],
+                    identifier: Some(&message[sequence.identifier]),
+                    documents: &message[sequence.documents],
+                    count: sequence.count,
+                };
+                (end, shown)
+            }
+        };
+        all.push(section);
+        at = end;
+    }
+    assert_eq!(at, view.length - 4 * (view.flags & 1) as usize);
+    all
+}
+
+#[test]
+fn moving_shows_the_same_sections_in_the_new_order() {
+    let checksums = Cell::new(0);
+    for_cases(4, |random| {
+        let edition = any_relay(random);
+        let message = any_message(random, &edition);
+        let Ok(view) = read(&edition, &message) else {
+            return false;
+        };
+        let behind = any_place(random, &view);
+        let (new, output) = moved(&edition, &message, behind);
+        assert_eq!(read(&edition, &output), Ok(new));
+        assert_eq!(new.behind(), behind);
+        let head = |view: &View| {
+            let ids = (view.request_id, view.response_to);
+            (view.length, ids, view.flags, view.elements)
+        };
+        assert_eq!(head(&new), head(&view));
+        assert!(output[..16] == message[..16]);
+        assert_eq!(get_u32(&output, 16), view.flags);
+
+        let mut expected = shown(&view, &message);
+        let body = expected.remove(view.behind() as usize);
+        assert_eq!(body.identifier, None);
+        expected.insert(behind as usize, body);
+        assert_eq!(shown(&new, &output), expected);
+        if view.flags & 1 == 1 {
+            let end = view.length - 4;
+            assert_eq!(get_u32(&output, end), reference::crc32c(&output[..end]));
+            count(&checksums);
+        }
+        behind != view.behind()
+    });
+    assert!(checksums.get() >= cases() / 10);
+}
+
+#[test]
+fn a_number_too_far_is_refused() {
+    for_cases(2, |random| {
+        let edition = any_relay(random);
+        let message = any_message(random, &edition);
+        let Ok(view) = read(&edition, &message) else {
+            return false;
+        };
+        let most = view.sequences().len() as u32;
+        let behind = match random.below(3) {
+            0 => most + 1,
+            1 => most + random.between(1, 300) as u32,
+            _ => (random.next() as u32).max(most + 1),
+        };
+        let room = random.pick(&[0, view.length - 1, view.length, view.length + 9]);
+        let mut output = vec![0xAA; room];
+        let answer = move_body(&edition, &message, behind, &mut output);
+        assert_eq!(answer, Err(Refusal::MoveTooFar(0)));
+        assert!(output.iter().all(|&byte| byte == 0xAA));
+        true
+    });
+}
+
+/// The message with its body behind so many of these sequences.
+fn with_body_behind(sequences: &[message::Section], behind: usize, flags: u32) -> Vec<u8> {
+    let body = element(0x02, b"insert", b"\x05\0\0\0runs\0");
+    let mut draft = Draft::new(sequences.to_vec());
+    draft.sections.insert(
+        behind,
+        message::Section::Body(common::bson::document(&body)),
+    );
+    draft.flags = flags;
+    draft.bytes()
+}
+
+#[test]
+fn every_place_among_up_to_16_sequences_to_every_other() {
+    // No two sections have the same length.
+    let all: Vec<message::Section> = (0..MAX_SEQUENCES)
+        .map(|index| message::Section::Sequence {
+            identifier: format!("s{index}").into_bytes(),
+            documents: (0..index).flat_map(nulls).collect(),
+        })
+        .collect();
+    // The house edition does not know bits 17 and 31.
+    for flags in [0, 1, 2 | 1 << 17, 1 | 1 << 16 | 1 << 31] {
+        for number in 0..=MAX_SEQUENCES {
+            let known = flags & Edition::HOUSE.bits;
+            let at = |behind, flags| with_body_behind(&all[..number], behind, flags);
+            let expected: Vec<(View, Vec<u8>)> = (0..=number)
+                .map(|behind| {
+                    let message = at(behind, known);
+                    let view = read(&Edition::HOUSE, &message).expect("accepted");
+                    assert_eq!(view.behind() as usize, behind);
+                    assert_eq!(view.sequences().len(), number);
+                    (view, message)
+                })
+                .collect();
+            for from in 0..=number {
+                let message = at(from, flags);
+                for (to, expected) in expected.iter().enumerate() {
+                    let moved = moved(&Edition::HOUSE, &message, to as u32);
+                    assert!(moved == *expected, "{from} to {to} of {number}, {flags:#x}");
+                }
+                let too_far = move_body(&Edition::HOUSE, &message, number as u32 + 1, &mut []);
+                assert_eq!(too_far, Err(Refusal::MoveTooFar(0)));
+            }
+        }
+    }
+}
+
+// ---------------------------------------------------------------- editions
 
 #[test]
 fn forwarding_shows_what_reading_shows() {
@@ -156,8 +408,8 @@ fn an_older_edition_accepts_just_what_it_knows() {
         if required & !older.bits != 0 {
             assert_eq!(answer, Err(Refusal::UnknownFlag(16)));
             count(&refused_8);
-        } else if !older.sequences && !shown.sequences().is_empty() {
-            let kind = shown.sequences()[0].identifier_start - 5;
+        } else if let (false, Some(first)) = (older.sequences, shown.sequences().next()) {
+            let kind = first.identifier.start - 5;
             assert_eq!(answer, Err(Refusal::UnknownKind(kind)));
             count(&refused_10);
         } else {
@@ -309,15 +561,24 @@ fn what_the_output_held_has_no_part_in_the_message() {
     for_cases(2, |random| {
         let edition = any_relay(random);
         let message = any_message(random, &edition);
-        let mut zeros = vec![0x00; MAX_LENGTH];
-        let mut ones = vec![0xFF; MAX_LENGTH];
-        let first = forward(&edition, &message, &mut zeros);
-        let second = forward(&edition, &message, &mut ones);
-        assert_eq!(first, second);
-        let written = first.map_or(0, |view| view.length);
-        assert!(zeros[..written] == ones[..written]);
-        assert!(zeros[written..].iter().all(|&byte| byte == 0x00));
-        assert!(ones[written..].iter().all(|&byte| byte == 0xFF));
-        first.is_ok()
+        let behind = any_behind(random, &as_reference(&edition), &message);
+        let room = message.len() + 100;
+        same_over_all(room, |output| move_body(&edition, &message, behind, output));
+        same_over_all(room, |output| forward(&edition, &message, output))
     });
+}
+
+/// A call writes the same over zeros and over ones, and its message alone;
+/// answers whether it writes any.
+fn same_over_all(room: usize, call: impl Fn(&mut [u8]) -> Result<View, Refusal>) -> bool {
+    let mut zeros = vec![0x00; room];
+    let mut ones = vec![0xFF; room];
+    let first = call(&mut zeros);
+    let second = call(&mut ones);
+    assert_eq!(first, second);
+    let written = first.map_or(0, |view| view.length);
+    assert!(zeros[..written] == ones[..written]);
+    assert!(zeros[written..].iter().all(|&byte| byte == 0x00));
+    assert!(ones[written..].iter().all(|&byte| byte == 0xFF));
+    first.is_ok()
 }

@@ -1,6 +1,7 @@
-//! The trials T1 to T14 of document 01, its limits and its marked orders, and
-//! where texts and binaries of subtype 02 (change request 4) come among them,
-//! run directly. The independent reader must give the same answers.
+//! The trials T1 to T14 of document 01, its limits and its marked orders, where
+//! texts and binaries of subtype 02 (change request 4) come among them, and the
+//! list of sections and moved bodies (change request 5), run directly. The
+//! independent reader must give the same answers.
 
 mod common;
 
@@ -8,30 +9,49 @@ use common::bson::*;
 use common::message::*;
 use common::reference::{self, crc32c, crc32c_by_bits, MAX_MESSAGE};
 use common::PING;
-use relay::{append, ffi, forward, read, write, Edition, Refusal, View};
+use relay::{append, ffi, forward, move_body, read, write, Edition, Refusal, View};
+use relay::{Sequence, VIEW_NUMBERS};
+use std::ops::Range;
 
 const HOUSE: Edition = Edition::HOUSE;
 
 /// Room for every message.
 const ROOM: usize = MAX_MESSAGE + 100;
 
+/// The same edition for the independent reader.
+fn as_reference(edition: &Edition) -> reference::Edition {
+    reference::Edition {
+        bits: edition.bits,
+        sequences: edition.sequences,
+    }
+}
+
+/// The view as the independent reader has it.
+fn as_reference_view(view: &View) -> reference::View {
+    let sections = view.sections().map(|section| match section {
+        relay::Section::Body(document) => reference::Section::Body(document),
+        relay::Section::Sequence(sequence) => reference::Section::Sequence(reference::Sequence {
+            identifier: sequence.identifier,
+            documents: sequence.documents,
+            count: sequence.count,
+        }),
+    });
+    reference::View {
+        length: view.length,
+        request_id: view.request_id,
+        response_to: view.response_to,
+        flags: view.flags,
+        elements: view.elements,
+        sections: sections.collect(),
+    }
+}
+
 /// Reads with the library, and sees that the independent reader agrees.
 fn read_both(edition: &Edition, message: &[u8]) -> Result<View, Refusal> {
     let answer = read(edition, message);
-    let other = reference::read(
-        &reference::Edition {
-            bits: edition.bits,
-            sequences: edition.sequences,
-        },
-        message,
-    );
+    let other = reference::read(&as_reference(edition), message);
     match (&answer, &other) {
-        (Ok(view), Ok(expected)) => {
-            assert_eq!(view.length, expected.length);
-            assert_eq!(view.elements, expected.elements);
-            assert_eq!(view.body(), expected.body);
-            assert_eq!(view.sequences().len(), expected.sequences.len());
-        }
+        (Ok(view), Ok(expected)) => assert_eq!(as_reference_view(view), *expected),
         (Err(refusal), Err(expected)) => {
             assert_eq!(refusal.number(), expected.number);
             assert_eq!(refusal.place(), expected.place);
@@ -48,6 +68,23 @@ fn ping_with(at: usize, bytes: &[u8]) -> Vec<u8> {
     message
 }
 
+/// The sections that a view shows.
+fn listed(view: &View) -> Vec<relay::Section> {
+    view.sections().collect()
+}
+
+fn body_at(document: Range<usize>) -> relay::Section {
+    relay::Section::Body(document)
+}
+
+fn sequence_at(identifier: Range<usize>, documents: Range<usize>, count: usize) -> relay::Section {
+    relay::Section::Sequence(Sequence {
+        identifier,
+        documents,
+        count,
+    })
+}
+
 fn element_count(message: &[u8]) -> usize {
     read_both(&HOUSE, message).expect("accepted").elements
 }
@@ -59,9 +96,9 @@ fn t1_ping_is_accepted() {
     let view = read_both(&HOUSE, &PING).expect("accepted");
     assert_eq!(view.length, 36);
     assert_eq!((view.request_id, view.response_to, view.flags), (7, 0, 0));
-    assert_eq!((view.body_start, view.body_length), (21, 15));
+    assert_eq!((view.body().start, view.body().len()), (21, 15));
     assert_eq!(view.elements, 1);
-    assert_eq!(view.sequences(), []);
+    assert_eq!(view.sequences().len(), 0);
 }
 
 #[test]
@@ -131,12 +168,10 @@ fn t11_and_t12_append_and_an_edition_without_kind_1() {
     let mut output = [0xAA; 50];
     let view = append(&HOUSE, &PING, b"d", &EMPTY, &mut output).expect("accepted");
     assert_eq!(view.length, 48);
-    let [sequence] = view.sequences() else {
-        panic!("one sequence");
-    };
-    assert_eq!(sequence.identifier(), 41..42);
-    assert_eq!(sequence.documents_range(), 43..48);
-    assert_eq!(sequence.documents, 1);
+    assert_eq!(
+        listed(&view),
+        [body_at(21..36), sequence_at(41..42, 43..48, 1)]
+    );
     let draft = Draft::new(vec![
         Section::Body(PING[21..].to_vec()),
         Section::Sequence {
@@ -327,8 +362,10 @@ fn sequences_16_and_17() {
             &mut output,
         )
         .expect("accepted");
+        assert_eq!(view.sections().len(), index + 2);
         assert_eq!(view.sequences().len(), index + 1);
-        assert_eq!(view.sequences()[index].documents, index);
+        let last = view.sequences().next_back().expect("a sequence");
+        assert_eq!(last.count, index);
         output.truncate(view.length);
         message = output;
     }
@@ -1187,4 +1224,262 @@ fn sixteen_sequences_come_before_a_new_identifier_that_is_not_utf_8() {
         append(&HOUSE, &message, BAD, b"", &mut [0; 1_000]),
         Err(Refusal::SeventeenthSequence(message.len()))
     );
+}
+
+// ------------------------------------------- the list of sections, and moves
+
+/// A sequence `a` of two empty documents, PING's body, a sequence `bc` of none.
+fn three_sections() -> [Section; 3] {
+    [
+        with_identifier(b"a", &EMPTY.repeat(2)),
+        Section::Body(PING[21..].to_vec()),
+        with_identifier(b"bc", b""),
+    ]
+}
+
+/// The message of these sections with a requestID under 0, a responseTo and
+/// this flag word.
+fn drafted(sections: &[&Section], flags: u32) -> Vec<u8> {
+    Draft {
+        request_id: -1,
+        response_to: 9,
+        flags,
+        sections: sections.iter().map(|&section| section.clone()).collect(),
+    }
+    .bytes()
+}
+
+/// The numbers of a view with these entries.
+fn numbers_of(head: [i64; 5], entries: &[[i64; 6]]) -> [i64; VIEW_NUMBERS] {
+    let mut numbers = head.to_vec();
+    numbers.extend(entries.iter().flatten());
+    while numbers.len() < VIEW_NUMBERS {
+        numbers.extend([-1, 0, 0, 0, 0, 0]);
+    }
+    numbers.try_into().expect("107 numbers")
+}
+
+#[test]
+fn the_list_shows_the_sections_in_message_order() {
+    let [a, body, bc] = &three_sections();
+    let message = drafted(&[a, body, bc], 0);
+    let view = read_both(&HOUSE, &message).expect("accepted");
+    assert_eq!(
+        listed(&view),
+        [
+            sequence_at(25..26, 27..37, 2),
+            body_at(38..53),
+            sequence_at(58..60, 61..61, 0),
+        ]
+    );
+    assert_eq!((view.body(), view.behind()), (38..53, 1));
+    assert_eq!(view.elements, 1);
+
+    let mut numbers = [7; VIEW_NUMBERS];
+    assert_eq!(ffi::read(HOUSE.bits, 1, &message, &mut numbers), 0);
+    let entries = [
+        [1, 25, 1, 27, 10, 2],
+        [0, 0, 0, 38, 15, 0],
+        [1, 58, 2, 61, 0, 0],
+    ];
+    assert_eq!(numbers, numbers_of([61, -1, 9, 0, 1], &entries));
+}
+
+#[test]
+fn the_list_is_full_with_sixteen_sequences() {
+    let sequences: Vec<Section> = (0..16)
+        .map(|index| with_identifier(&[b'a' + index], b""))
+        .collect();
+    for place in 0..=16 {
+        let mut sections: Vec<&Section> = sequences.iter().collect();
+        let body = Section::Body(EMPTY.to_vec());
+        sections.insert(place, &body);
+        let message = drafted(&sections, 0);
+        let mut numbers = [7; VIEW_NUMBERS];
+        assert_eq!(ffi::read(HOUSE.bits, 1, &message, &mut numbers), 0);
+        // A body of 6 bytes, sequences of 7; a sequence's identifier is 5 bytes
+        // in, its documents would be 7.
+        let entries: Vec<[i64; 6]> = (0..17)
+            .map(|index| {
+                let before = 20 + 7 * index as i64 - i64::from(index > place);
+                if index == place {
+                    [0, 0, 0, before + 1, 5, 0]
+                } else {
+                    [1, before + 5, 1, before + 7, 0, 0]
+                }
+            })
+            .collect();
+        assert_eq!(numbers, numbers_of([138, -1, 9, 0, 0], &entries));
+    }
+}
+
+#[test]
+fn the_whole_view_of_a_moved_message() {
+    let [a, body, bc] = &three_sections();
+    // The body's place, the sections, and their entries.
+    let orders = [
+        (
+            0,
+            [body, a, bc],
+            [
+                [0, 0, 0, 21, 15, 0],
+                [1, 41, 1, 43, 10, 2],
+                [1, 58, 2, 61, 0, 0],
+            ],
+        ),
+        (
+            1,
+            [a, body, bc],
+            [
+                [1, 25, 1, 27, 10, 2],
+                [0, 0, 0, 38, 15, 0],
+                [1, 58, 2, 61, 0, 0],
+            ],
+        ),
+        (
+            2,
+            [a, bc, body],
+            [
+                [1, 25, 1, 27, 10, 2],
+                [1, 42, 2, 45, 0, 0],
+                [0, 0, 0, 46, 15, 0],
+            ],
+        ),
+    ];
+    // Without a checksum and with one; bit 17 is not known.
+    for (flags, length) in [(2, 61), (3, 65)] {
+        for (_, from, _) in &orders {
+            for (behind, to, entries) in &orders {
+                let message = drafted(from, flags | 1 << 17);
+                let mut output = [0xAA; 70];
+                let mut numbers = [7; VIEW_NUMBERS + 3];
+                let result =
+                    ffi::move_body(HOUSE.bits, 1, &message, *behind, &mut output, &mut numbers);
+                assert_eq!(result, 0);
+                assert_eq!(output[..length], drafted(to, flags));
+                assert!(output[length..].iter().all(|&byte| byte == 0xAA));
+                let head = [length as i64, -1, 9, i64::from(flags), 1];
+                assert_eq!(numbers[..VIEW_NUMBERS], numbers_of(head, entries));
+                assert_eq!(numbers[VIEW_NUMBERS..], [7; 3]);
+            }
+        }
+    }
+}
+
+#[test]
+fn the_order_of_move() {
+    let [a, body, bc] = &three_sections();
+    let message = drafted(&[a, body, bc], 0);
+    let mut output = vec![0xAA; ROOM];
+    let mut refusal = |edition: &Edition, message: &[u8], behind: u32, room: usize| {
+        let refusal = move_body(edition, message, behind, &mut output[..room]).unwrap_err();
+        assert!(output.iter().all(|&byte| byte == 0xAA));
+        refusal
+    };
+    // Reading's refusals, whatever the number and the room.
+    let clash = drafted(&[body, &with_identifier(b"ping", b"")], 0);
+    for behind in [0, 3, 17, u32::MAX] {
+        let short = &message[..60];
+        assert_eq!(refusal(&HOUSE, short, behind, 0), Refusal::BufferShort(0));
+        assert_eq!(
+            refusal(&HOUSE, b"", behind, ROOM),
+            Refusal::BufferUnder16(0)
+        );
+        assert_eq!(
+            refusal(&BODIES_ONLY, &message, behind, 0),
+            Refusal::UnknownKind(20)
+        );
+        assert_eq!(
+            refusal(&HOUSE, &clash, behind, 0),
+            Refusal::IdentifierClash(41)
+        );
+    }
+    // Then 28, before 25.
+    for behind in [3, 4, 16, 17, 0x0100, 0x0001_0000, 1 << 31, u32::MAX] {
+        assert_eq!(refusal(&HOUSE, &message, behind, 0), Refusal::MoveTooFar(0));
+        assert_eq!(
+            refusal(&HOUSE, &message, behind, ROOM),
+            Refusal::MoveTooFar(0)
+        );
+    }
+    for behind in 0..=2 {
+        assert_eq!(
+            refusal(&HOUSE, &message, behind, 0),
+            Refusal::OutputShort(0)
+        );
+        assert_eq!(
+            refusal(&HOUSE, &message, behind, 60),
+            Refusal::OutputShort(0)
+        );
+    }
+    // Without a sequence, and where none is known, there is one number.
+    for edition in [&HOUSE, &BODIES_ONLY] {
+        assert_eq!(refusal(edition, &PING, 1, 0), Refusal::MoveTooFar(0));
+        assert_eq!(refusal(edition, &PING, 0, 35), Refusal::OutputShort(0));
+        let mut output = [0xAA; 36];
+        move_body(edition, &PING, 0, &mut output).expect("accepted");
+        assert_eq!(output, PING);
+    }
+}
+
+#[test]
+fn moving_refuses_a_number_too_far_before_a_short_view() {
+    let [a, body, bc] = &three_sections();
+    let message = drafted(&[a, body, bc], 1);
+    for numbers in [0, 5, VIEW_NUMBERS - 1] {
+        let mut output = [0xAA; 70];
+        let mut view = vec![7; numbers];
+        let mut result = |message: &[u8], behind: u32, room: usize| {
+            let result = ffi::move_body(
+                HOUSE.bits,
+                1,
+                message,
+                behind,
+                &mut output[..room],
+                &mut view,
+            );
+            assert_eq!(output, [0xAA; 70]);
+            assert!(view.iter().all(|&number| number == 7));
+            result
+        };
+        assert_eq!(result(&message[..64], 3, 70), 3 << 32);
+        assert_eq!(result(&message, 3, 70), 28 << 32);
+        assert_eq!(result(&message, 2, 70), 25 << 32);
+        assert_eq!(result(&message, 2, 64), 25 << 32);
+        assert_eq!(result(&message, 3, 64), 28 << 32);
+    }
+}
+
+#[test]
+fn moving_at_the_greatest_length_among_sixteen_sequences() {
+    for flags in [0, 1] {
+        let sequences: Vec<Section> = (0..16)
+            .map(|index| with_identifier(&[b'a' + index], &nulls(100)))
+            .collect();
+        let mut sections: Vec<&Section> = sequences.iter().collect();
+        let small = Section::Body(EMPTY.to_vec());
+        sections.insert(7, &small);
+        let left = MAX_MESSAGE - drafted(&sections, flags).len();
+        let body = Section::Body(padded(&EMPTY, left));
+        let at = |behind: usize| {
+            let mut sections: Vec<&Section> = sequences.iter().collect();
+            sections.insert(behind, &body);
+            drafted(&sections, flags)
+        };
+        let message = at(7);
+        assert_eq!(message.len(), MAX_MESSAGE);
+        for behind in 0..=16 {
+            let mut output = vec![0xAA; ROOM];
+            let view = move_body(&HOUSE, &message, behind, &mut output).expect("accepted");
+            let moved = at(behind as usize);
+            assert!(output[..MAX_MESSAGE] == moved);
+            assert!(output[MAX_MESSAGE..].iter().all(|&byte| byte == 0xAA));
+            assert_eq!(read_both(&HOUSE, &moved), Ok(view));
+            assert_eq!((view.behind(), view.elements), (behind, 1_601));
+        }
+        assert_eq!(
+            move_body(&HOUSE, &message, 17, &mut vec![0; ROOM]),
+            Err(Refusal::MoveTooFar(0))
+        );
+    }
 }

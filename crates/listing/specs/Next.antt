@@ -10,6 +10,7 @@ use Rattle.wire.specs.Bytes.{under}
 use Rattle.opmsg.specs.Flags.{house}
 use Rattle.opmsg.specs.Layout.{maxLength, messageLength}
 use Rattle.opmsg.specs.Read.{read}
+use Rattle.opmsg.specs.View.{sequenceCount}
 use Rattle.opmsg.specs.declared.View.{View}
 use Rattle.listing_lines.specs.declared.Summary.{Summary}
 use Rattle.listing.specs.declared.Step.{Step}
@@ -22,7 +23,7 @@ summaryOf v = record {
   «request_id» = v .«request_id»;
   «response_to» = v .«response_to»;
   flags = v .flags;
-  sequences = v .«sequence_count»;
+  sequences = sequenceCount v;
   elements = v .elements;
 }
 

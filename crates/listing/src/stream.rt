@@ -41,12 +41,13 @@ fn judge(s: &[u8]) -> Step
         return Step::Bad { number, place };
     }
     let view = reading.view;
+    let sequences = opmsg_view::sequence_count(view);
     Step::Message(Summary {
         length: view.length,
         request_id: view.request_id,
         response_to: view.response_to,
         flags: view.flags,
-        sequences: view.sequence_count,
+        sequences,
         elements: view.elements,
     })
 }

@@ -11,15 +11,17 @@ use mir.Facts.{and-yes, yes-and}
 use Rattle.wire.specs.Outcome.{ok}
 use Rattle.opmsg.specs.Flags.{bit, kept, knows}
 use Rattle.opmsg.specs.Layout.{messageLength, flagWord}
-use Rattle.opmsg.specs.Sections.{Section, kindOf}
+use Rattle.opmsg.specs.View.{sectionsOf}
 use Rattle.opmsg.specs.Read.{read}
+use Rattle.opmsg.proofs.SectionRead.{kindOf}
 use Rattle.opmsg.proofs.Bits.{known-bits, bits-known, common-bit, kept-same, kept-both}
 use Rattle.message.specs.Forward.{forwarded}
-use Rattle.message.specs.Editions.{sectionsOf, KnowsKinds, withFlags, Room, sent}
+use Rattle.message.specs.Editions.{KnowsKinds, withFlags, Room, sent}
 use Rattle.message.specs.Chain.{Relay, Accepting, HasRoom, after, through, All, KnowsShared, both, shared, Chain}
 use Rattle.opmsg.specs.declared.Edition.{Edition}
+use Rattle.opmsg.specs.declared.Section.{Section}
 use Rattle.opmsg.specs.declared.View.{View}
-use Rattle.message.proofs.Answers.{accepts-kinds}
+use Rattle.message.proofs.Answers.{knows-kind, accepts-kinds}
 use Rattle.message.proofs.Forwarded.{view-flags, forwarded-word, forwarded-knows, sent-forwarded}
 use Rattle.message.proofs.Editions.{more-kinds, required-bits, knowing-accepts, second-accepts, second-sends}
 
@@ -55,7 +57,8 @@ module _ (a b : Edition) where
 
   both-kinds : (qs : List Section) → KnowsKinds a qs → KnowsKinds b qs → KnowsKinds (both a b) qs
   both-kinds [] p q = tt
-  both-kinds (x ∷ qs) p q = (both-kind (kindOf x) .1 (p .0, q .0), both-kinds qs (p .1) (q .1))
+  both-kinds (x ∷ qs) p q =
+      (rw (knows-kind (both a b) x) (both-kind (kindOf x) .1 (rw (knows-kind a x) at (p .0), rw (knows-kind b x) at (q .0))), both-kinds qs (p .1) (q .1))
 
 -- one relay in place of the first two of a chain: it knows what both know, and is lent the first's output
 abbrev fused : Relay → Relay → Relay
@@ -107,7 +110,7 @@ module _ (r : Relay) (one : Edition) (s : List ℕ) (v : View) (h : read (r .edi
   one-accepts =
       let a = r .edition in
       knowing-accepts a one s v h (λ i l t. k .bits i (omega arith) .1 (required-bits a s v h i l t, tt))
-      (more-kinds a one (sectionsOf a s) (λ kind t. k .kinds kind .1 (t, tt)) (accepts-kinds a a s v v h h))
+      (more-kinds a one (sectionsOf v) (λ kind t. k .kinds kind .1 (t, tt)) (accepts-kinds a a s v v h h))
 
   one-flags : v .flags ≡ kept (one .bits) (flagWord s)
   one-flags =
@@ -128,7 +131,7 @@ module _ (r q : Relay) (s : List ℕ) (v w : View) (h : read (r .edition) s ≡ 
       let a = r .edition in
       let b = q .edition in
       knowing-accepts a (both a b) s v h (λ i l t. both-bit a b i (omega arith) .1 (required-bits a s v h i l t, required-bits b s w k i l t))
-      (both-kinds a b (sectionsOf a s) (accepts-kinds a a s v v h h) (accepts-kinds a b s v w h k))
+      (both-kinds a b (sectionsOf v) (accepts-kinds a a s v v h h) (accepts-kinds a b s v w h k))
 
   fused-flags : kept (q .edition .bits) (kept (r .edition .bits) (flagWord s)) ≡ kept (fused r q .edition .bits) (flagWord s)
   unfolding both

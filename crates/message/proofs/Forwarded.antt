@@ -15,11 +15,11 @@ use Rattle.wire.proofs.Outcome.{pass, go-on}
 use Rattle.opmsg.specs.Flags.{checksummed, kept}
 use Rattle.opmsg.specs.Layout.{messageLength, flagWord, sectionBytes}
 use Rattle.opmsg.specs.Sections.{Parts}
-use Rattle.opmsg.specs.View.{viewOf}
+use Rattle.opmsg.specs.View.{viewOf, sectionsOf}
 use Rattle.opmsg.specs.Read.{parts, read}
 use Rattle.message.specs.Message.{output}
 use Rattle.message.specs.Forward.{forwarded, forward}
-use Rattle.message.specs.Editions.{sectionsOf, KnowsKinds, withFlags, Room, sent}
+use Rattle.message.specs.Editions.{KnowsKinds, withFlags, Room, sent}
 use Rattle.opmsg.specs.declared.Edition.{Edition}
 use Rattle.opmsg.specs.declared.View.{View}
 use Rattle.opmsg.proofs.Accepted.{Differ, reads, accepted}
@@ -90,18 +90,18 @@ module _ (e : Edition) (s : List ℕ) (v : View) (h : read e s ≡ ok v) where
       (ap (kept (e .bits)) (forwarded-seen .flags ∙ view-flags) ∙ kept-within (e .bits) (e .bits) (flagWord s) (known-self 32 (e .bits))) ∙ r .view)
 
   -- so does a relay with the required bits and the kinds of what e forwards
-  pub forwarded-answer : (r : Edition) → Known 16 (v .flags) (r .bits) → KnowsKinds r (sectionsOf e s) → read r (forwarded s v) ≡ ok (withFlags v (kept (r .bits) (v .flags)))
+  pub forwarded-answer : (r : Edition) → Known 16 (v .flags) (r .bits) → KnowsKinds r (sectionsOf v) → read r (forwarded s v) ≡ ok (withFlags v (kept (r .bits) (v .flags)))
   forwarded-answer r k u =
       let b = known-allKnown 16 (r .bits) (flagWord (forwarded s v)) (rw (forwarded-seen .flags) k) in
       read-answer e r (forwarded s v) v own-forward ∙ pass 8 16 _ b
-      ∙ go-on _ (rw (forwarded-parts e) (kinds-known r (sectionsOf e s) u)) ∙ rw (forwarded-seen .flags)
+      ∙ go-on _ (kinds-known r (sectionsOf v) u) ∙ rw (forwarded-seen .flags)
 
   -- and such a relay alone, which knows those of the message then
-  pub forwarded-knows : (r : Edition) (w : View) → read r (forwarded s v) ≡ ok w → Known 16 (flagWord s) (r .bits) × KnowsKinds r (sectionsOf e s)
+  pub forwarded-knows : (r : Edition) (w : View) → read r (forwarded s v) ≡ ok w → Known 16 (flagWord s) (r .bits) × KnowsKinds r (sectionsOf v)
   forwarded-knows r w k =
       let b = rw (forwarded-seen .flags, view-flags) at (allKnown-known 16 (r .bits) (flagWord (forwarded s v)) (reads k .bits)) in (
         known-kept 16 (e .bits) (flagWord s) (r .bits) (omega arith) required b,
-        rw (forwarded-parts e) at (accepts-kinds e r (forwarded s v) v w own-forward k),
+        accepts-kinds e r (forwarded s v) v w own-forward k,
       )
 
   -- given room, that is what the relay forwards

@@ -15,7 +15,7 @@ use Rattle.wire.proofs.Bytes.{wordAt-lt, bits32-signed, wordAt-front}
 use Rattle.wire.proofs.Walk.{walk-turns}
 use Rattle.opmsg.specs.Flags.{kept, knows}
 use Rattle.opmsg.specs.Layout.{maxLength, messageLength, flagWord, sectionBytes}
-use Rattle.opmsg.specs.Sections.{maxSequences, Parts, nothing, bodyStart, sequencesOf, sectionAt}
+use Rattle.opmsg.specs.Sections.{maxSequences, Parts, nothing, bodyOf, sequencesOf, sectionAt}
 use Rattle.opmsg.specs.View.{viewOf}
 use Rattle.opmsg.specs.Read.{parts, read}
 use Rattle.message.specs.Message.{wholeLength, output}
@@ -26,11 +26,17 @@ use Rattle.message.specs.RoundTrip.{firstMessage}
 use Rattle.opmsg.specs.declared.Edition.{Edition}
 use Rattle.opmsg.specs.declared.View.{View}
 use Rattle.opmsg.proofs.Accepted.{Differ, reads, accepted}
-use Rattle.opmsg.proofs.Section.{section-steady}
+use Rattle.opmsg.proofs.SectionRead.{section-steady}
+use Rattle.opmsg.proofs.Shown.{view-count}
 use Rattle.opmsg.proofs.Bits.{Known, known-allKnown, kept-all}
 use Rattle.message.proofs.Message.{Seen, stated-length}
 use Rattle.message.proofs.Whole.{word-bytes-at, whole}
 use Rattle.message.proofs.Appended.{appended-seen, appended-rest}
+
+-- a message that is as long as it says is the first of an output that begins with it
+pub first-of : (m r : List ℕ) → length m ≡ messageLength m → 4 ≤ length m → firstMessage (m ++ r) ≡ m
+unfolding firstMessage
+first-of m r l four = rw (wordAt-front 0 m r four) (take-at m r (messageLength m) l)
 
 -- the message s with sections ys
 abbrev pub made : List ℕ → List ℕ → List ℕ
@@ -57,7 +63,7 @@ module _ (e : Edition) (s : List ℕ) (v : View) (h : read e s ≡ ok v) (b : By
     appended-made zs = unfold appended in rw (appended-rest s (reads h .sound) (flagWord s) ys (wordAt-lt 16 s b) made-limit)
 
     -- it is read as its sections are
-    pub made-read : (p : Parts) → walk (sectionAt e) (length ys) 20 ys nothing ≡ ok p → 0 < bodyStart (p .sections) → Differ ys (p .sections)
+    pub made-read : (p : Parts) → walk (sectionAt e) (length ys) 20 ys nothing ≡ ok p → 0 < bodyOf (p .sections) .start → Differ ys (p .sections)
         → read e (made s ys) ≡ ok (viewOf e (made s ys) p)
     unfolding parts
     made-read p w i d =
@@ -65,15 +71,11 @@ module _ (e : Edition) (s : List ℕ) (v : View) (h : read e s ≡ ok v) (b : By
         rw (made-seen .end, made-seen .sections)
         (walk-turns (sectionAt e) (section-steady e .advances) (20 + length ys) (length ys) 20 ys nothing (omega arith) (omega arith) ∙ w) in
         accepted e (made s ys) (made-seen .sound) (rw (made-seen .flags) (reads h .bits)) p a
-        (ne-eqb (bodyStart (p .sections)) 0 (λ z. omega arith)) (rw (made-seen .sections) d)
+        (ne-eqb (bodyOf (p .sections) .start) 0 (λ z. omega arith)) (rw (made-seen .sections) d)
 
     -- it is the first message of an output that begins with it
     pub first-made : (r : List ℕ) → firstMessage (made s ys ++ r) ≡ made s ys
-    unfolding firstMessage
-    first-made r =
-        let a = made-seen .whole in
-        let c : 4 ≤ length (made s ys) = omega (arith, made-seen .sound .least) in
-        rw (wordAt-front 0 (made s ys) r c) (take-at (made s ys) r (messageLength (made s ys)) a)
+    first-made r = let l = made-seen .whole in first-of (made s ys) r l (omega (arith, made-seen .sound .least))
 
   -- one sequence is appended
   module _ (ys name documents out : List ℕ) (p : Parts) (w : View) (l : length (ys ++ sequenceBytes name documents) ≤ length (sectionBytes s)) (room : Room s out)
@@ -87,6 +89,7 @@ module _ (e : Edition) (s : List ℕ) (v : View) (h : read e s ≡ ok v) (b : By
         rw (
           before,
           k,
+          view-count e (made s ys) p,
           lt-leb maxSequences (length (sequencesOf (p .sections))) c,
           ne-eqb (length name) 0 (λ i. omega arith),
           z,

@@ -16,23 +16,32 @@ use Rattle.bson_elements.specs.Element.{maxElements, head, inside, element, siz
 use Rattle.bson.specs.Document.{maxLevels, frame, documentAt}
 use Rattle.opmsg.specs.Flags.{common, kept, allKnown, checksummed, knows, house}
 use Rattle.opmsg.specs.Layout.{maxLength, checksumSize, sectionsEnd, sectionBytes, checksumDiffers}
-use Rattle.opmsg.specs.Sections.{maxSequences, bodyStart, bodySize, sequencesOf, nextDocument, bodySection, sequenceRun, sequenceNamed, sequenceSection, sectionOf, sectionAt}
-use Rattle.opmsg.specs.Names.{sameText, among, distinct, elementNames, part, bodyNames, identifier, identifiers, texts}
-use Rattle.opmsg.specs.View.{noSequence, padded, viewOf}
+use Rattle.opmsg.specs.Sections.{maxSequences, maxSections, bodyOf, sequencesOf, nextDocument, bodySection, sequenceRun, sequenceNamed, sequenceSection, sectionOf, sectionAt}
+use Rattle.opmsg.specs.Names.{sameText, among, distinct, elementNames, part, bodyNames, identifiers, texts}
+use Rattle.opmsg.specs.View.{padded, viewOf, sectionsOf, sequenceCount}
 use Rattle.opmsg.specs.Read.{header, flagged, parts, distinctNames, content, read}
 use Rattle.opmsg.specs.Ping.{ping}
 use Rattle.message.specs.Message.{checksum, message, wholeLength, Written}
 use Rattle.message.specs.Forward.{forwarded, forward}
 use Rattle.message.specs.Append.{sequenceBytes, appended, append}
 use Rattle.opmsg.specs.declared.Edition.{Edition}
-use Rattle.opmsg.specs.declared.Sequence.{Sequence}
+use Rattle.opmsg.specs.declared.Section.{Section}
+use Rattle.opmsg.specs.declared.Section.the-variants.{None, Body, Sequence}
+use Rattle.opmsg.specs.declared.Entry.{Entry}
 use Rattle.opmsg.specs.declared.View.{View}
 
-abbrev bodiesOnly : Edition
+abbrev pub bodiesOnly : Edition
 bodiesOnly = record { bits = house .bits; sequences = false }
 
+abbrev pub says : Section → Entry
+says q = record { section = q }
+
+-- PING's body
+abbrev pingBody : Section
+pingBody = Body (record { start = 21; length = 15 })
+
 abbrev pingShown : View
-pingShown = record { length = 36; «request_id» = pos 7; «response_to» = pos 0; flags = 0; body = 21; «body_length» = 15; «sequence_count» = 0; sequences = replicate 16 noSequence; elements = 1 }
+pingShown = record { length = 36; «request_id» = pos 7; «response_to» = pos 0; flags = 0; entries = says pingBody ∷ replicate 16 (says None); elements = 1 }
 
 -- PING with the sequence `d` of one empty document
 abbrev withD : List ℕ
@@ -40,8 +49,8 @@ withD = set ping 0 48 ++ (1 ∷ 11 ∷ 0 ∷ 0 ∷ 0 ∷ 0x64 ∷ 0 ∷ 5 ∷ 0 
 
 abbrev withDShown : View
 withDShown =
-    let d : Sequence = record { name = 41; «name_length» = 1; start = 43; end = 48; documents = 1 } in
-    record { length = 48; «request_id» = pos 7; «response_to» = pos 0; flags = 0; body = 21; «body_length» = 15; «sequence_count» = 1; sequences = set (replicate 16 noSequence) 0 d; elements = 1 }
+    let d : Section = Sequence (record { start = 41; length = 1 }) (record { start = 43; length = 5 }) 1 in
+    record { length = 48; «request_id» = pos 7; «response_to» = pos 0; flags = 0; entries = says pingBody ∷ says d ∷ replicate 15 (says None); elements = 1 }
 
 -- a body with `ping` twice
 abbrev twice : List ℕ
@@ -60,7 +69,7 @@ run (reads e s) = do
 run (forwards s) = forward house s 36
 run (appends i d) = append house ping i d 48
 
-abbrev shown : View → List ℕ → Outcome Written
+abbrev pub shown : View → List ℕ → Outcome Written
 shown v m = ok (record { view = v; bytes = m })
 
 trials :
@@ -94,5 +103,5 @@ trials :
     ∷ refused 24 41
     ∷ refused 23 36
     ∷ []
-unfolding _>>=_ refuse walk forms starts characterOf charactersOf wellFormed textAt word wordAt under signed bits32 untilZero oneOf sized cstring string binary boolean regex pointer codeWithScope table ruleIn maxLevels maxElements frame head inside element documentAt sizeOf elementSize common kept allKnown checksummed knows maxLength checksumSize sectionsEnd sectionBytes checksumDiffers maxSequences bodyStart bodySize sequencesOf nextDocument bodySection sequenceRun sequenceNamed sequenceSection sectionOf sectionAt sameText among distinct elementNames part bodyNames identifier identifiers texts padded viewOf header flagged parts distinctNames content read le32 checksum message wholeLength forwarded forward sequenceBytes appended append
+unfolding _>>=_ refuse walk forms starts characterOf charactersOf wellFormed textAt word wordAt under signed bits32 untilZero oneOf sized cstring string binary boolean regex pointer codeWithScope table ruleIn maxLevels maxElements frame head inside element documentAt sizeOf elementSize common kept allKnown checksummed knows maxLength checksumSize sectionsEnd sectionBytes checksumDiffers maxSequences maxSections bodyOf sequencesOf nextDocument bodySection sequenceRun sequenceNamed sequenceSection sectionOf sectionAt sameText among distinct elementNames part bodyNames identifiers texts padded viewOf sectionsOf sequenceCount header flagged parts distinctNames content read le32 checksum message wholeLength forwarded forward sequenceBytes appended append
 trials = refl

@@ -1,4 +1,4 @@
--- What forward, write and append write is a message that the same edition reads, and no byte more.
+-- What forward, write, append and move write is a message that the same edition reads, and no byte more.
 -- Assumes nothing.
 use Prim.Native.Nat.{ℕ, _^_, _<_}
 use mathlib.Core.Path.{_≡_, refl, sym, _∙_}
@@ -7,7 +7,7 @@ use native.Mathlib.Omega.{arith}
 use lib.ListN.{length}
 use lib.IntN.{ℤ}
 use borrow.Author.Tests.{ltb-false}
-use Rattle.wire.specs.Bytes.{wordAt, le32}
+use Rattle.wire.specs.Bytes.{Bytes, wordAt, le32}
 use Rattle.wire.proofs.Bytes.{word-le32}
 use Rattle.wire.proofs.Outcome.{ok-same, bound, passed}
 use Rattle.opmsg.specs.Layout.{maxLength, messageLength}
@@ -19,10 +19,12 @@ use Rattle.message.specs.Message.{wholeLength}
 use Rattle.message.specs.Forward.{forward}
 use Rattle.message.specs.Write.{written, write}
 use Rattle.message.specs.Append.{append}
+use Rattle.message.specs.Move.{moved, move}
 use Rattle.message.specs.WrittenMessages.{WritesMessage, WritesMessages}
 use Rattle.message.proofs.Message.{message-word, message-whole}
 use Rattle.message.proofs.Forwarded.{view-flags-lt, view-length, forwarded-length, own-forward}
 use Rattle.message.proofs.Appended.{appended-seen}
+use Rattle.message.proofs.Moved.{moved-seen}
 
 forwards : (e : Edition) (s : List ℕ) (room : ℕ) → WritesMessage e (forward e s room)
 unfolding forward
@@ -63,5 +65,14 @@ appends e s identifier documents room w h =
     bound (read e _) _ (c6 .1) λ u r same.
     rw (← ok-same same) (r, appended-seen s (reads k .sound) (v .flags) _ (view-flags-lt e s v k) limit .whole ∙ sym (view-length e _ u r))
 
+moves : (e : Edition) (s : List ℕ) (behind room : ℕ) → Bytes s → WritesMessage e (move e s behind room)
+unfolding move
+moves e s behind room b w h =
+    bound (read e s) _ h λ v k rest.
+    let c1 = passed _ _ _ _ rest in
+    let c2 = passed _ _ _ _ (c1 .1) in
+    bound (read e (moved s v behind)) _ (c2 .1) λ u r same.
+    rw (← ok-same same) (r, moved-seen e s v b k behind .whole ∙ sym (view-length e (moved s v behind) u r))
+
 pub writes-messages : WritesMessages
-writes-messages = record { forwards = forwards; writes = writes; appends = appends }
+writes-messages = record { forwards = forwards; writes = writes; appends = appends; moves = moves }

@@ -1,18 +1,20 @@
 -- What demand 3 speaks of: what an edition knows of a message, and what a relay forwards of it.
 -- Assumes nothing: these are definitions.
 use Prim.Native.Nat.{ℕ, _<_, _≤_}
+use mathlib.Core.Bool.{Bool, true}
 use mathlib.Core.Path.{_≡_}
 use mathlib.Core.List.{List, [], _∷_, _++_}
 use lib.ListN.{length, take}
 use lib.Dec.{T}
-use Rattle.wire.specs.Outcome.{Outcome, ok, refused}
+use Rattle.wire.specs.Outcome.{ok}
 use Rattle.opmsg.specs.Flags.{bit, knows}
 use Rattle.opmsg.specs.Layout.{messageLength, flagWord}
-use Rattle.opmsg.specs.Sections.{Section, kindOf, Parts}
-use Rattle.opmsg.specs.Read.{parts, read}
+use Rattle.opmsg.specs.Read.{read}
 use Rattle.message.specs.Message.{output}
 use Rattle.message.specs.Forward.{forward}
 use Rattle.opmsg.specs.declared.Edition.{Edition}
+use Rattle.opmsg.specs.declared.Section.{Section}
+use Rattle.opmsg.specs.declared.Section.the-variants.{None, Body, Sequence}
 use Rattle.opmsg.specs.declared.View.{View}
 
 -- the one edition knows every flag bit and every section kind that the other knows
@@ -24,22 +26,20 @@ pub record Newer (new old : Edition) : Type 0 where
 abbrev pub Accepts : Edition → List ℕ → Type 0
 Accepts e s = (v : View) × (read e s ≡ ok v)
 
--- the sections of a message, as the edition that accepts it reads them
-unfoldable pub listed : Outcome Parts → List Section
-listed (ok p) = p .sections
-listed (refused number place) = []
-
-abbrev pub sectionsOf : Edition → List ℕ → List Section
-sectionsOf e s = listed (parts e s)
-
 -- it knows every bit below n that is set in the message's flag word: below 16 for the required ones, below 32 for all
 abbrev pub KnowsBits : ℕ → Edition → List ℕ → Type 0
 KnowsBits n e s = (i : ℕ) → i < n → T (bit i (flagWord s)) → T (bit i (e .bits))
 
+-- it knows the kind of a section; an entry that says none has no kind to be known
+unfoldable pub knowsKind : Edition → Section → Bool
+knowsKind e None = true
+knowsKind e (Body range) = knows e 0
+knowsKind e (Sequence identifier documents number) = knows e 1
+
 -- it knows the kind of every section
 abbrev pub KnowsKinds : Edition → List Section → Type 0
 KnowsKinds e [] = Unit {0}
-KnowsKinds e (q ∷ qs) = T (knows e (kindOf q)) × KnowsKinds e qs
+KnowsKinds e (q ∷ qs) = T (knowsKind e q) × KnowsKinds e qs
 
 -- q is the first of the sections whose kind the edition doesn't know
 pub record FirstUnknown (e : Edition) (sections : List Section) (q : Section) : Type 0 where
@@ -47,7 +47,7 @@ pub record FirstUnknown (e : Edition) (sections : List Section) (q : Section) : 
   pub after : List Section
   pub split : sections ≡ before ++ (q ∷ after)
   pub known : KnowsKinds e before
-  pub unknown : ¬ T (knows e (kindOf q))
+  pub unknown : ¬ T (knowsKind e q)
 
 -- the view with another flag word
 unfoldable pub withFlags : View → ℕ → View
@@ -56,10 +56,7 @@ withFlags v flags = record {
   «request_id» = v .«request_id»;
   «response_to» = v .«response_to»;
   flags = flags;
-  body = v .body;
-  «body_length» = v .«body_length»;
-  «sequence_count» = v .«sequence_count»;
-  sequences = v .sequences;
+  entries = v .entries;
   elements = v .elements;
 }
 

@@ -2,8 +2,10 @@ pub mod Message
 pub mod Forward
 pub mod Write
 pub mod Append
+pub mod Move
 pub mod Editions
 pub mod Demand3
+pub mod Moving
 pub mod Chain
 pub mod Refreshed
 pub mod RoundTrip

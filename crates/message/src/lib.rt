@@ -1,1 +1,1 @@
-// Messages put together from their parts: forwarding, writing and appending as definitions, demand 3 and the round trip as theorems.
+// Messages put together from their parts: forwarding, writing, appending and moving the body as definitions, demand 3 and the round trip as theorems.

@@ -2,44 +2,59 @@
 use message_append_checks::Found;
 use message_append_checks::examine;
 use opmsg::Edition;
+use opmsg::Entry;
+use opmsg::Range;
 use opmsg::Reading;
-use opmsg::Sequence;
+use opmsg::Section;
 use opmsg::Verdict;
 use opmsg::View;
 use opmsg_view::refusal;
 ghost use mathlib.Core.Path.{_≡_};
 ghost use Prim.Native.Nat.{_+_, _^_, _<_};
 ghost use lib.ListN.{length};
-ghost use Rattle.opmsg.specs.View.{answer};
+ghost use Rattle.opmsg.specs.Sections.{sequenceAt};
+ghost use Rattle.opmsg.specs.View.{sequenceCount, answer};
 ghost use Rattle.opmsg.specs.Inner.{judged};
 ghost use Rattle.message.specs.Message.{viewed, output};
 ghost use Rattle.message.specs.Append.{append};
 ghost use Rattle.message.specs.Inner.{decided};
 ghost use Rattle.message_append_checks.specs.Inner.{grown};
 
-// The view with one sequence more: its kind byte is at a place, its identifier has n bytes and its documents d.
-fn grown(v: View, at: usize, n: usize, d: usize, documents: u32, elements: u32) -> View
-    requires { ⌜ (v .length + (n + 6 + d) < 2 ^ 32) × (at + (n + 6 + d) < 2 ^ 32) × (v .«sequence_count» < 16) ⌝ }
+// A sequence whose kind byte is at a place; its identifier has n bytes and its documents d.
+fn sequence_at(at: usize, n: usize, d: usize, number: u32) -> Section
+    requires { ⌜ at + (n + 6 + d) < 2 ^ 32 ⌝ }
+    ensures { λ r. ⌜ r ≡ sequenceAt at n d number ⌝ }
+{
+    let identifier = Range {
+        start: (at + 5) as u32,
+        length: n as u32,
+    };
+    let documents = Range {
+        start: (at + (n + 6)) as u32,
+        length: d as u32,
+    };
+    Section::Sequence {
+        identifier,
+        documents,
+        number,
+    }
+}
+
+// The view with one sequence more, behind the sections that its used entries show: its kind byte is at a place, its identifier has n bytes
+// and its documents d.
+fn grown(v: View, used: usize, at: usize, n: usize, d: usize, documents: u32, elements: u32) -> View
+    requires { ⌜ (v .length + (n + 6 + d) < 2 ^ 32) × (at + (n + 6 + d) < 2 ^ 32) × (used < 17) × (used ≡ sequenceCount v + 1) ⌝ }
     ensures { λ r. ⌜ r ≡ grown v at n d documents elements ⌝ }
 {
-    let mut sequences = v.sequences;
-    let i = v.sequence_count as usize;
-    sequences[i] = Sequence {
-        name: (at + 5) as u32,
-        name_length: n as u32,
-        start: (at + (n + 6)) as u32,
-        end: (at + (1 + (n + 5 + d))) as u32,
-        documents,
-    };
+    let mut entries = v.entries;
+    let section = sequence_at(at, n, d, documents);
+    entries[used] = Entry { section };
     View {
         length: v.length + (n + 6 + d) as u32,
         request_id: v.request_id,
         response_to: v.response_to,
         flags: v.flags,
-        body: v.body,
-        body_length: v.body_length,
-        sequence_count: v.sequence_count + 1,
-        sequences,
+        entries,
         elements,
     }
 }
@@ -73,11 +88,14 @@ pub fn append(e: Edition, s: &[u8], identifier: &[u8], documents: &[u8], out: &m
     match examine(e, s, v, identifier, documents, out.len()) {
         Found::New {
             end,
+            used,
             documents: number,
             elements,
         } => {
             message_append_store::appended(out, s, end, v.flags, identifier, documents);
-            let view = grown(v, end, identifier.len(), documents.len(), number, elements);
+            let n = identifier.len();
+            let d = documents.len();
+            let view = grown(v, used, end, n, d, number, elements);
             Reading {
                 verdict: Verdict::Accepted,
                 view,

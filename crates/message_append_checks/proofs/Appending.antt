@@ -3,7 +3,7 @@
 use Prim.Native.Nat.{ℕ, _+_, _-_, _<_, _≤_}
 use mathlib.Core.Bool.{Bool, true, false}
 use mathlib.Core.Path.{_≡_, refl, sym, ap, _∙_}
-use mathlib.Core.List.{List, [], _∷_, _++_}
+use mathlib.Core.List.{List, _++_}
 use native.Mathlib.Omega.{arith}
 use lib.ListN.{length, length-append}
 use borrow.Author.Tests.{ltb-false, leb-false, eqb-false, not-false}
@@ -14,26 +14,27 @@ use Rattle.wire.proofs.Bytes.{until-le}
 use Rattle.wire.proofs.Walk.{walk-append}
 use Rattle.opmsg.specs.Flags.{kept, knows}
 use Rattle.opmsg.specs.Layout.{maxLength, flagWord, checksumSize, sectionsEnd, sectionBytes}
-use Rattle.opmsg.specs.Sections.{maxSequences, Run, nothing, sectionAt, sequencesOf}
+use Rattle.opmsg.specs.Sections.{maxSequences, maxSections, sequenceAt, bodyOf, sequencesOf, Run, nothing, sectionAt}
 use Rattle.opmsg.specs.Names.{among, bodyNames, identifiers, texts}
-use Rattle.opmsg.specs.View.{viewOf}
+use Rattle.opmsg.specs.View.{viewOf, sequenceCount}
 use Rattle.opmsg.specs.Read.{parts, content, read}
 use Rattle.opmsg.specs.Inner.{Shows}
 use Rattle.opmsg.specs.declared.Edition.{Edition}
+use Rattle.opmsg.specs.declared.Range.{Range}
 use Rattle.opmsg.specs.declared.View.{View}
 use Rattle.opmsg.proofs.Limits.{maxLength-small}
 use Rattle.opmsg.proofs.Accepted.{Reads, reads, read-content}
 use Rattle.opmsg.proofs.Bits.{known-self, known-allKnown, kept-within, kept-known}
-use Rattle.opmsg.proofs.Section.{section-steady}
-use Rattle.opmsg.proofs.Shown.{padded-set}
+use Rattle.opmsg.proofs.SectionRead.{section-steady}
+use Rattle.opmsg.proofs.Shown.{padded-set, view-count, body-nones}
 use Rattle.message.specs.Message.{wholeLength}
 use Rattle.message.specs.Append.{sequenceBytes, appended, append}
+use Rattle.message.proofs.Answers.{section-list}
 use Rattle.message.proofs.Message.{Seen, same-size, stated-length, stated-end}
 use Rattle.message.proofs.Forwarded.{required, view-flags, view-flags-lt, view-bit0, view-length}
 use Rattle.message.proofs.Appended.{appended-word, appended-stated, appended-seen}
-use Rattle.opmsg_sections.proofs.Gather.{body-stays, sequences-more}
 use Rattle.message_append_store.proofs.Size.{sizeOf, bytes-length}
-use Rattle.message_append_checks.specs.Inner.{allowed, entry, grown}
+use Rattle.message_append_checks.specs.Inner.{allowed, shownBody, grown}
 use Rattle.message_append_checks.proofs.Held.{accepted-held}
 use Rattle.message_append_checks.proofs.Section.{runAt, withSection, section-walked, names-checked}
 
@@ -86,16 +87,27 @@ module _ (e : Edition) (s : List ℕ) (v : View) (h : read e s ≡ ok v) where
   end-is = rw (view-length e s v h, same-checksum)
 
   -- what its view shows of its sections
-  pub shows : Shows (r .sections .sections) (v .body) (v .«body_length») (v .sequences) (v .«sequence_count»)
+  same-body : bodyOf (r .sections .sections) ≡ shownBody v
+  same-body = sym (ap bodyOf (section-list r) ∙ body-nones (maxSections - length (r .sections .sections)) (r .sections .sections))
+
+  same-count : length (sequencesOf (r .sections .sections)) ≡ sequenceCount v
+  same-count = sym (view-count e s (r .sections)) ∙ ap sequenceCount (r .view)
+
+  -- one of them is the body
+  all-count : length (r .sections .sections) ≡ sequenceCount v + 1
+  all-count =
+      let some = eqb-false (bodyOf (r .sections .sections) .start) 0 (r .body) in
+      omega (arith, accepted-held e s v h .number, same-count, some)
+
+  pub shows : Shows (r .sections .sections) (shownBody v .start) (shownBody v .length) (v .entries) (sequenceCount v + 1) (sequenceCount v)
   unfolding viewOf
-  shows =
-      let q = r .view in
-      record {
-        start-is = ap (λ (v : View). v .body) q;
-        size-is = ap (λ (v : View). v .«body_length») q;
-        table-is = ap (λ (v : View). v .sequences) q;
-        number-is = ap (λ (v : View). v .«sequence_count») q;
-      }
+  shows = record {
+    start-is = ap (λ (b : Range). b .start) same-body;
+    size-is = ap (λ (b : Range). b .length) same-body;
+    entries-is = ap (λ (v : View). v .entries) (r .view);
+    used-is = all-count;
+    sequences-is = same-count;
+  }
 
   pub elements-are : r .sections .elements ≡ v .elements
   unfolding viewOf
@@ -122,17 +134,17 @@ module _ (e : Edition) (s : List ℕ) (v : View) (h : read e s ≡ ok v) where
 
     -- the checks behind reading, and then reading of the new message
     append-checks : (room : ℕ) → append e s name documents room
-        ≡ (allowed e (sectionsEnd s) (v .«sequence_count») name (v .length + (length name + 6 + length documents)) room >>= λ _. read e new >>= λ w. ok (record { view = w; bytes = new }))
+        ≡ (allowed e (sectionsEnd s) (sequenceCount v) name (v .length + (length name + 6 + length documents)) room >>= λ _. read e new >>= λ w. ok (record { view = w; bytes = new }))
     unfolding append allowed
     append-checks room = rw whole-is (go-on _ h ∙ sym (check _ _ _ _ _ (check _ _ _ _ _ (check _ _ _ _ _ (check _ _ _ _ _ (check _ _ _ _ _ refl))))))
 
-    pub append-barred : (room : ℕ) {number place : ℕ} → allowed e (sectionsEnd s) (v .«sequence_count») name (v .length + (length name + 6 + length documents)) room ≡ refused number place
+    pub append-barred : (room : ℕ) {number place : ℕ} → allowed e (sectionsEnd s) (sequenceCount v) name (v .length + (length name + 6 + length documents)) room ≡ refused number place
         → append e s name documents room ≡ refused number place
     append-barred room c = append-checks room ∙ halt _ c
 
-    module _ (room : ℕ) (c : allowed e (sectionsEnd s) (v .«sequence_count») name (v .length + (length name + 6 + length documents)) room ≡ ok tt) where
-      abbrev a : Allowed e (v .«sequence_count») name (wholeLength (v .flags) more) room
-      a = allows e (sectionsEnd s) (v .«sequence_count») name (wholeLength (v .flags) more) room (rw whole-is at c)
+    module _ (room : ℕ) (c : allowed e (sectionsEnd s) (sequenceCount v) name (v .length + (length name + 6 + length documents)) room ≡ ok tt) where
+      abbrev a : Allowed e (sequenceCount v) name (wholeLength (v .flags) more) room
+      a = allows e (sectionsEnd s) (sequenceCount v) name (wholeLength (v .flags) more) room (rw whole-is at c)
 
       pub size-small : 20 + length (sectionBytes s) + (1 + sizeOf name documents) ≤ maxLength
       unfolding wholeLength
@@ -154,15 +166,14 @@ module _ (e : Edition) (s : List ℕ) (v : View) (h : read e s ≡ ok v) where
           let k = length-append xs ys in
           rw (seen .end, seen .sections)
           (walk-append (sectionAt e) (section-steady e) (sectionsEnd s) (1 + sizeOf name documents) (20 + length more) 20 xs ys nothing (omega (arith, stated-end s (r .sound))) (omega arith) (omega arith) (r .listed)
-          ∙ section-walked name documents e at (r .sections) (a .known) (omega (arith, a .few, shows .number-is)) (a .some) (a .ended) (omega (arith, size-small, maxLength-small)))
+          ∙ section-walked name documents e at (r .sections) (a .known) (omega (arith, a .few, shows .sequences-is)) (a .some) (a .ended) (omega (arith, size-small, maxLength-small)))
 
       new-view : (run : Run) → viewOf e new (withSection name documents at (r .sections) run) ≡ grown v at (length name) (length documents) (run .documents) (run .elements)
       unfolding viewOf grown
       new-view run =
           let qs = r .sections .sections in
-          let q = entry at (length name) (length documents) (run .documents) in
-          let stays = body-stays qs at q in
-          let room : length (sequencesOf qs) < maxSequences = omega (arith, a .few, shows .number-is) in
+          let q = sequenceAt at (length name) (length documents) (run .documents) in
+          let room : length qs < maxSections = unfold maxSequences maxSections in omega (arith, a .few, shows .used-is) in
           rw (
             appended-stated s (r .sound) (v .flags) more (view-flags-lt e s v h) (a .limit),
             ← whole-is,
@@ -172,15 +183,9 @@ module _ (e : Edition) (s : List ℕ) (v : View) (h : read e s ≡ ok v) where
             flags-again,
             ids .0,
             ids .1,
-            stays .0,
-            stays .1,
-            sequences-more qs at q,
-            ← padded-set (sequencesOf qs) q room,
-            length-append (sequencesOf qs) (q ∷ []),
-            shows .start-is,
-            shows .size-is,
-            shows .table-is,
-            shows .number-is,
+            ← padded-set qs q room,
+            shows .entries-is,
+            shows .used-is,
           )
 
       read-new : read e new

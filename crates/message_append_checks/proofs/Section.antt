@@ -3,7 +3,7 @@
 use Prim.Native.Nat.{ℕ, suc, _+_, _-_, _^_, _<_}
 use mathlib.Core.Bool.{Bool, true, false}
 use mathlib.Core.Path.{_≡_, refl, sym, ap, _∙_}
-use mathlib.Core.List.{List, [], _∷_, _++_, append-nil, append-assoc, map-append}
+use mathlib.Core.List.{List, [], _∷_, _++_, append-nil, append-assoc}
 use native.Mathlib.Omega.{arith}
 use lib.ListN.{length, getD, take, drop, length-append, drop-of-length-le}
 use lib.Seq.{take-at, take-all, drop-append-add, drop-drop}
@@ -17,18 +17,18 @@ use Rattle.wire.proofs.Bytes.{not-under, until-stop, until-go, word-le32}
 use Rattle.wire.proofs.Walk.{walk-done, walk-step}
 use Rattle.utf8.specs.Text.{textAt}
 use Rattle.opmsg.specs.Flags.{knows}
-use Rattle.opmsg.specs.Sections.{maxSequences, Section, sequence, bodyStart, bodySize, sequencesOf, Parts, Run, nextDocument, sequenceRun, sequenceNamed, sequenceSection, sectionOf, sectionAt}
-use Rattle.opmsg.specs.Names.{Name, among, distinct, part, bodyNames, identifier, identifiers, texts}
+use Rattle.opmsg.specs.Sections.{maxSequences, sequenceAt, bodyOf, sequencesOf, Parts, Run, nextDocument, sequenceRun, sequenceNamed, sequenceSection, sectionOf, sectionAt}
+use Rattle.opmsg.specs.Names.{Name, among, distinct, part, bodyNames, identifiers, texts}
 use Rattle.opmsg.specs.Read.{distinctNames}
 use Rattle.opmsg.specs.declared.Edition.{Edition}
+use Rattle.opmsg.specs.declared.Section.{Section}
 use Rattle.opmsg.proofs.Accepted.{Differ}
-use Rattle.opmsg.proofs.Differ.{front-part, front-identifiers}
+use Rattle.opmsg.proofs.Differ.{front-part, front-identifiers, identifiers-append}
+use Rattle.opmsg.proofs.Shown.{body-sequence}
 use Rattle.message.specs.Append.{sequenceBytes}
 use Rattle.opmsg_body_names.proofs.Texts.{among-append, among-last}
-use Rattle.opmsg_sections.proofs.Gather.{body-stays, sequences-more}
 use Rattle.opmsg_documents.proofs.Turns.{run-turns}
 use Rattle.message_append_store.proofs.Size.{sizeOf, bytes-length}
-use Rattle.message_append_checks.specs.Inner.{entry}
 use Rattle.message_append_checks.proofs.Held.{Held}
 
 -- a text without a zero byte ends at the zero byte behind it
@@ -83,7 +83,7 @@ module _ (name documents : List ℕ) where
 
   -- the parts with it behind them
   abbrev pub withSection : (at : ℕ) → Parts → Run → Parts
-  withSection at p run = record { sections = p .sections ++ (sequence at (entry at (length name) (length documents) (run .documents)) ∷ []); elements = run .elements }
+  withSection at p run = record { sections = p .sections ++ (sequenceAt at (length name) (length documents) (run .documents) ∷ []); elements = run .elements }
 
   module _ (e : Edition) (at : ℕ) (p : Parts) (k : knows e 1 ≡ true) (room : length (sequencesOf (p .sections)) < maxSequences)
       (some : 0 < length name) (z : untilZero name ≡ length name) (small : size < 2 ^ 31) where
@@ -107,13 +107,14 @@ module _ (name documents : List ℕ) where
 
     -- it is read as its identifier and its documents are
     pub section-walked : walk (sectionAt e) (1 + size) at bytes p ≡ (runAt at (p .elements) >>= λ run. ok (withSection at p run))
-    unfolding sequenceRun entry _>>=_
+    unfolding sequenceRun _>>=_
     section-walked =
         let i : 1 + size ≡ suc size = omega arith in
         let l = bytes-length name documents in
+        let d : size - (length name + 5) ≡ length documents = omega arith in
         let end : drop (1 + size) bytes ≡ [] = drop-of-length-le bytes {i = 1 + size} (omega arith) in
         ap (λ (n : ℕ). walk (sectionAt e) n at bytes p) i ∙ walk-step (sectionAt e) size at bytes p (omega arith)
-        ∙ rw (section-checked, bytes-documents, run-turns size (length documents) (at + (length name + 6)) documents (record { documents = 0; elements = p .elements }) (omega arith) (omega arith))
+        ∙ rw (section-checked, bytes-documents, d, run-turns size (length documents) (at + (length name + 6)) documents (record { documents = 0; elements = p .elements }) (omega arith) (omega arith))
         (assoc (textAt (at + 5) name) _ _
         ∙ same-after (textAt (at + 5) name) _ _ (λ _ _. assoc (documentsAt at (p .elements)) _ _ ∙ same-after (documentsAt at (p .elements)) _ _ (λ run g. rw end (walk-done (sectionAt e) size _ (withSection at p run))))
         ∙ sym (assoc (textAt (at + 5) name) _ _))
@@ -138,7 +139,7 @@ distinct-last number base (m ∷ ns) n h =
     ∙ rw (← among-last base (m .text) t, ← among-append (base ++ (m .text ∷ [])) (texts ns) t, append-assoc base (m .text ∷ []) (texts ns)) in
     pass number (m .place) _ (c .0) ∙ distinct-last number (m .text ∷ base) ns n (c .1) ∙ ap (refuse number (n .place)) same
 
-module _ (xs : List ℕ) (qs : List Section) (held : Held xs (length xs) qs) (d : Differ xs qs) (body : eqb (bodyStart qs) 0 ≡ false) (name documents : List ℕ) (number : ℕ) where
+module _ (xs : List ℕ) (qs : List Section) (held : Held xs (length xs) qs) (d : Differ xs qs) (body : eqb (bodyOf qs .start) 0 ≡ false) (name documents : List ℕ) (number : ℕ) where
   abbrev at : ℕ
   at = 20 + length xs
 
@@ -146,13 +147,14 @@ module _ (xs : List ℕ) (qs : List Section) (held : Held xs (length xs) qs) (d 
   more = xs ++ sequenceBytes name documents
 
   abbrev new : Section
-  new = sequence at (entry at (length name) (length documents) number)
+  new = sequenceAt at (length name) (length documents) number
+
+  same-body : bodyOf (qs ++ (new ∷ [])) ≡ bodyOf qs
+  same-body = body-sequence qs _ _ _
 
   body-names : bodyNames more (qs ++ (new ∷ [])) ≡ bodyNames xs qs
   unfolding bodyNames
-  body-names =
-      let stays = body-stays qs at (entry at (length name) (length documents) number) in
-      rw (stays .0, stays .1, front-part xs (sequenceBytes name documents) (bodyStart qs + 4) (bodySize qs - 5) (held .inside))
+  body-names = rw (same-body, front-part xs (sequenceBytes name documents) (bodyOf qs .start + 4) (bodyOf qs .length - 5) (held .inside))
 
   new-name : part more (at + 5) (length name) ≡ name
   unfolding part
@@ -161,14 +163,12 @@ module _ (xs : List ℕ) (qs : List Section) (held : Held xs (length xs) qs) (d 
       rw (i, drop-append-add xs (sequenceBytes name documents) 5, behind-size name documents) (take-at name _ (length name) refl)
 
   all-identifiers : identifiers more (qs ++ (new ∷ [])) ≡ identifiers xs qs ++ (record { place = at + 5; text = name } ∷ [])
-  unfolding identifiers identifier entry
-  all-identifiers =
-      rw (sequences-more qs at (entry at (length name) (length documents) number), map-append (identifier more), front-identifiers xs (sequenceBytes name documents) (sequencesOf qs) (held .names), new-name)
+  unfolding identifiers
+  all-identifiers = identifiers-append more qs (new ∷ []) ∙ rw (front-identifiers xs (sequenceBytes name documents) qs (held .names), new-name)
 
   -- of the new names the identifier alone can be refused
   pub names-checked : (end : ℕ) → distinctNames end more (qs ++ (new ∷ [])) ≡ refuse 24 (at + 5) (among (texts (bodyNames xs qs) ++ texts (identifiers xs qs)) name)
   unfolding distinctNames _>>=_ refuse
   names-checked end =
-      let stays = body-stays qs at (entry at (length name) (length documents) number) in
-      rw (distinctNames, stays .0, body, body-names, d .names, all-identifiers)
+      rw (distinctNames, same-body, body, body-names, d .names, all-identifiers)
       (distinct-last 24 (texts (bodyNames xs qs)) (identifiers xs qs) (record { place = at + 5; text = name }) (d .all))

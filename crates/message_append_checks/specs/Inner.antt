@@ -12,10 +12,11 @@ use Rattle.wire.specs.Walk.{walk}
 use Rattle.utf8.specs.Text.{textAt}
 use Rattle.opmsg.specs.Flags.{knows}
 use Rattle.opmsg.specs.Layout.{maxLength, sectionsEnd}
-use Rattle.opmsg.specs.Sections.{maxSequences, nextDocument}
+use Rattle.opmsg.specs.Sections.{maxSequences, sequenceAt, bodyOf, nextDocument}
+use Rattle.opmsg.specs.View.{sectionsOf, sequenceCount}
 use Rattle.opmsg.specs.Read.{read}
 use Rattle.opmsg.specs.declared.Edition.{Edition}
-use Rattle.opmsg.specs.declared.Sequence.{Sequence}
+use Rattle.opmsg.specs.declared.Range.{Range}
 use Rattle.opmsg.specs.declared.View.{View}
 use Rattle.message.specs.Append.{sequenceBytes, appended, append}
 use Rattle.message_append_checks.specs.declared.Found.{Found}
@@ -35,35 +36,35 @@ allowed e end count identifier whole room = do
 abbrev pub permitted : Edition → (end count : ℕ) → (identifier : List ℕ) → (whole room : ℕ) → Outcome (Unit {0})
 permitted e end count identifier whole room = allowed e end count identifier whole room >>= λ _. textAt (end + 5) identifier
 
--- the new sequence: its kind byte is at a place, its identifier has n bytes and its documents d
-unfoldable pub entry : (at n d documents : ℕ) → Sequence
-entry at n d documents = record { name = at + 5; «name_length» = n; start = at + (n + 6); end = at + (1 + (n + 5 + d)); documents = documents }
+-- the body's part, by a view
+abbrev pub shownBody : View → Range
+shownBody v = bodyOf (sectionsOf v)
 
--- the view with that sequence behind the others
+-- the view with one sequence more, at the first entry behind the body's and the other sequences':
+-- its kind byte is at a place, its identifier has n bytes and its documents d
 unfoldable pub grown : View → (at n d documents elements : ℕ) → View
 grown v at n d documents elements = record {
   length = v .length + (n + 6 + d);
   «request_id» = v .«request_id»;
   «response_to» = v .«response_to»;
   flags = v .flags;
-  body = v .body;
-  «body_length» = v .«body_length»;
-  «sequence_count» = v .«sequence_count» + 1;
-  sequences = set (v .sequences) (v .«sequence_count») (entry at n d documents);
+  entries = set (v .entries) (sequenceCount v + 1) (record { section = sequenceAt at n d documents });
   elements = elements;
 }
 
--- what is known where only names are left to check: the message is read, the checks are passed, the identifier is text, and the documents are counted
-pub record Ready (e : Edition) (s identifier documents : List ℕ) (v : View) (end number elements room : ℕ) : Type 0 where
+-- what is known where only names are left to check: the message is read, the checks are passed, the identifier is text, and the documents are counted;
+-- `used` entries show the sections
+pub record Ready (e : Edition) (s identifier documents : List ℕ) (v : View) (end used number elements room : ℕ) : Type 0 where
   pub ended : end ≡ sectionsEnd s
   pub shown : read e s ≡ ok v
-  pub passed : permitted e end (v .«sequence_count») identifier (v .length + (length identifier + 6 + length documents)) room ≡ ok tt
+  pub behind : used ≡ sequenceCount v + 1
+  pub passed : permitted e end (sequenceCount v) identifier (v .length + (length identifier + 6 + length documents)) room ≡ ok tt
   pub counted : walk nextDocument (length documents) (end + (length identifier + 6)) documents (record { documents = 0; elements = v .elements })
       ≡ ok (record { documents = number; elements = elements })
 
 -- the message that grows by an identifier and documents, or the refusal
 abbrev pub Examined : Edition → (s : List ℕ) → View → (identifier documents : List ℕ) → (room : ℕ) → Found → Type 0
-Examined e s v identifier documents room (found.New end number elements) = Ready e s identifier documents v end number elements room
+Examined e s v identifier documents room (found.New end used number elements) = Ready e s identifier documents v end used number elements room
     × (append e s identifier documents room
     ≡ ok (record { view = grown v end (length identifier) (length documents) number elements; bytes = appended s (v .flags) (take (end - 20) (drop 20 s) ++ sequenceBytes identifier documents) }))
 Examined e s v identifier documents room (found.Refused number place) = append e s identifier documents room ≡ refused number place

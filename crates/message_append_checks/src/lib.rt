@@ -8,21 +8,25 @@ use opmsg::View;
 use opmsg_documents::Counted;
 use opmsg_flags::checksum_size;
 use opmsg_names::identifiers::taken;
+use opmsg_view::body;
+use opmsg_view::sequence_count;
 ghost use mathlib.Core.Path.{_≡_};
 ghost use mathlib.Core.List.{List, _++_};
-ghost use Prim.Native.Nat.{_+_, _-_, _^_, _<_, _≤_};
+ghost use Prim.Native.Nat.{ℕ, _+_, _-_, _≤_};
 ghost use lib.ListN.{length, take, drop};
-ghost use Rattle.opmsg.specs.Sections.{Section};
+ghost use Rattle.opmsg.specs.declared.Section.{Section};
 ghost use Rattle.opmsg.specs.Names.{among, part, bodyNames, identifiers, texts};
 ghost use Rattle.opmsg.specs.Inner.{Shows, Filled};
 ghost use Rattle.wire.specs.Outcome.{ok};
 ghost use Rattle.opmsg.specs.Read.{read};
-ghost use Rattle.message_append_checks.specs.Inner.{Examined};
+ghost use Rattle.message_append_checks.specs.Inner.{shownBody, Examined};
 
-// What an append finds of its parts: where the message's sections end, and the documents counted with all elements; or why it refuses.
+// What an append finds of its parts: where the message's sections end, how many entries show them, and the documents counted with all elements;
+// or why it refuses.
 pub enum Found {
     New {
         end: usize,
+        used: usize,
         documents: u32,
         elements: u32,
     },
@@ -32,22 +36,22 @@ pub enum Found {
     },
 }
 
-// The identifier is a name of the message, whose sections end at a place.
-fn repeated(s: &[u8], v: View, end: usize, identifier: &[u8]) -> bool
-    requires { ⌜ (20 ≤ end) × (end ≤ length (now s)) × (v .«sequence_count» ≤ 16) × (v .body < 2 ^ 32)
-        × Filled (part (take (end - 20) (drop 20 (now s))) (v .body + 4) (v .«body_length» - 5)) ⌝ }
-    ensures { λ r. ⌜ ((qs : List Section) → Shows qs (v .body) (v .«body_length») (v .sequences) (v .«sequence_count»)
+// The identifier is a name of the message, whose sections end at a place and are shown by so many entries.
+fn repeated(s: &[u8], v: View, end: usize, used: usize, identifier: &[u8]) -> bool
+    requires { ⌜ (20 ≤ end) × (end ≤ length (now s)) × (used ≤ 17)
+        × Filled (part (take (end - 20) (drop 20 (now s))) (shownBody v .start + 4) (shownBody v .length - 5)) ⌝ }
+    ensures { λ r. ⌜ ((qs : List Section) (sequences : ℕ) → Shows qs (shownBody v .start) (shownBody v .length) (v .entries) used sequences
         → r ≡ among (texts (bodyNames (take (end - 20) (drop 20 (now (s .entry)))) qs) ++ texts (identifiers (take (end - 20) (drop 20 (now (s .entry)))) qs)) (now (identifier .entry))) ⌝ }
 {
     let xs = &s[20..end];
-    let sequences = v.sequences;
-    let count = v.sequence_count as usize;
+    let range = body(v);
+    let entries = v.entries;
     taken(
         xs,
-        v.body as usize,
-        v.body_length as usize,
-        sequences,
-        count,
+        range.start as usize,
+        range.length as usize,
+        entries,
+        used,
         identifier,
     )
 }
@@ -65,15 +69,9 @@ pub fn examine(
     ensures { λ r. ⌜ Examined e (now (s .entry)) v (now (identifier .entry)) (now (documents .entry)) room r ⌝ }
 {
     let end = (v.length - checksum_size(v.flags)) as usize;
-    let passed = before_documents(
-        e,
-        end,
-        v.sequence_count,
-        v.length,
-        identifier,
-        documents.len(),
-        room,
-    );
+    let count = sequence_count(v);
+    let d = documents.len();
+    let passed = before_documents(e, end, count, v.length, identifier, d, room);
     if let Verdict::Refused { number, place } = passed {
         return Found::Refused { number, place };
     }
@@ -83,7 +81,9 @@ pub fn examine(
             documents: number,
             elements,
         } => {
-            if repeated(s, v, end, identifier) {
+            // one entry more is the body's
+            let used = count as usize + 1;
+            if repeated(s, v, end, used, identifier) {
                 return Found::Refused {
                     number: 24,
                     place: end + 5,
@@ -91,6 +91,7 @@ pub fn examine(
             }
             Found::New {
                 end,
+                used,
                 documents: number,
                 elements,
             }

@@ -40,6 +40,13 @@ stores p x old now at l h e =
     ∙ drop-append-add p (drop (length p) old) (length x) ∙ drop-drop (length x) (length p) old ∙ ap (λ (n : ℕ). drop n old) (sym (length-append p x)) in
     put-fits at x now (omega arith) ∙ ap₂ (λ (a b : List ℕ). a ++ x ++ b) first rest
 
+-- what is stored over them, they among it, is stored over what stood there
+pub stores-over : (p x old now : List ℕ) → Stored p old now → overwritten (p ++ x) now ≡ overwritten (p ++ x) old
+stores-over p x old now e =
+    let rest : drop (length (p ++ x)) now ≡ drop (length (p ++ x)) old =
+    rw (length-append p x) (ap (drop (length p + length x)) e ∙ drop-append-add p (drop (length p) old) (length x) ∙ drop-drop (length x) (length p) old) in
+    ap (λ (b : List ℕ). p ++ x ++ b) rest
+
 -- one byte more
 pub stores-byte : (p old now : List ℕ) (x at : ℕ) → length p ≡ at → at < length old → Stored p old now → Stored (p ++ (x ∷ [])) old (set now at x)
 stores-byte p old now x at l h e =

@@ -20,7 +20,7 @@ use Rattle.bson.specs.Document.{documentAt, maxLevels}
 use Rattle.bson.proofs.Frame.{document-framed}
 use Rattle.opmsg.specs.Flags.{allKnown, knows}
 use Rattle.opmsg.specs.Layout.{maxLength, flagWord}
-use Rattle.opmsg.specs.Sections.{body, bodyStart, bodySize, sequencesOf, Parts, nothing, bodySection, sectionOf, sectionAt}
+use Rattle.opmsg.specs.Sections.{bodyAt, bodyOf, Parts, nothing, bodySection, sectionOf, sectionAt}
 use Rattle.opmsg.specs.Names.{distinct, elementNames, part, bodyNames, identifiers}
 use Rattle.opmsg.specs.View.{viewOf}
 use Rattle.opmsg.specs.Read.{parts, distinctNames, content, read}
@@ -39,10 +39,10 @@ use Rattle.message_write.specs.Inner.{shown}
 
 -- what reading makes of them
 abbrev alone : Step ℕ → Parts
-alone d = record { sections = body 20 21 (d .size) ∷ []; elements = d .state }
+alone d = record { sections = bodyAt 20 (d .size) ∷ []; elements = d .state }
 
 body-first : (e : Edition) (s : List ℕ) → sectionAt e 20 (0 ∷ s) nothing ≡ (documentAt maxLevels 21 s 0 >>= λ d. ok (record { size = 1 + d .size; state = alone d }))
-unfolding sectionAt sectionOf bodySection knows bodyStart _>>=_ refuse
+unfolding sectionAt sectionOf bodySection knows bodyOf _>>=_ refuse
 body-first e s = refl
 
 body-walked : (e : Edition) (s : List ℕ) (turns : ℕ) → word s ≡ length s → walk (sectionAt e) (suc turns) 20 (0 ∷ s) nothing ≡ (documentAt maxLevels 21 s 0 >>= λ d. ok (alone d))
@@ -56,7 +56,7 @@ body-walked e s turns w =
 
 -- the body's names are all there are
 names-alone : (end : ℕ) (s : List ℕ) (d : Step ℕ) → distinctNames end (0 ∷ s) (alone d .sections) ≡ (distinct 23 [] (elementNames (d .size) 25 (take (d .size - 5) (drop 4 s))) >>= λ _. ok tt)
-unfolding distinctNames bodyStart bodySize bodyNames part identifiers sequencesOf distinct _>>=_ refuse
+unfolding distinctNames bodyOf bodyNames part identifiers distinct _>>=_ refuse
 names-alone end s d = refl
 
 content-alone : {A B : Type 0} (o : Outcome (Unit {0})) (d : A) (f : A → B) → (o >>= (λ _. ok tt) >>= λ (_ : Unit {0}). ok (f d)) ≡ (o >>= (λ _. ok d) >>= λ a. ok (f a))
@@ -131,7 +131,7 @@ module _ (e : Edition) (i j : ℤ) (flags : ℕ) (s : List ℕ) (room : ℕ) (fi
 
   module _ (fits-i : SFits w32 i) (fits-j : SFits w32 j) where
     written-view : (d : Step ℕ) → viewOf e (written i j flags s) (alone d) ≡ shown i j flags (wholeLength flags (0 ∷ s)) (d .size) (d .state)
-    unfolding viewOf shown bodyStart bodySize sequencesOf wordAt le32 written
+    unfolding viewOf shown wordAt le32 written
     written-view d =
         let g = front-headed in
         let words = message-word front flags (0 ∷ s) (g .sixteen) in

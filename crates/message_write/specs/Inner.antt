@@ -1,8 +1,9 @@
 -- What the view of a write shows.
 -- Assumes nothing: these are definitions.
 use Prim.Native.Nat.{ℕ}
-use mathlib.Core.List.{[]}
+use mathlib.Core.List.{[], _∷_}
 use lib.IntN.{ℤ}
+use Rattle.opmsg.specs.Sections.{bodyAt}
 use Rattle.opmsg.specs.View.{padded}
 use Rattle.opmsg.specs.declared.View.{View}
 
@@ -13,9 +14,6 @@ shown requestId responseTo flags length size elements = record {
   «request_id» = requestId;
   «response_to» = responseTo;
   flags = flags;
-  body = 21;
-  «body_length» = size;
-  «sequence_count» = 0;
-  sequences = padded [];
+  entries = padded (bodyAt 20 size ∷ []);
   elements = elements;
 }

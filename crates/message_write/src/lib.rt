@@ -3,10 +3,13 @@ use bson::Walk;
 use message_write_checks::before_reading;
 use message_write_checks::examine_body;
 use opmsg::Edition;
+use opmsg::Entry;
+use opmsg::Range;
 use opmsg::Reading;
+use opmsg::Section;
 use opmsg::Verdict;
 use opmsg::View;
-use opmsg::no_sequence;
+use opmsg::no_entries;
 use opmsg_flags::checksum_size;
 use opmsg_view::refusal;
 ghost use mathlib.Core.Path.{_≡_};
@@ -40,17 +43,18 @@ fn view(
 ) -> View
     ensures { λ r. ⌜ r ≡ shown «request_id» «response_to» flags length size elements ⌝ }
 {
-    let none = no_sequence();
-    let sequences = [none; 16];
+    let section = Section::Body(Range {
+        start: 21,
+        length: size,
+    });
+    let mut entries = no_entries();
+    entries[0] = Entry { section };
     View {
         length,
         request_id,
         response_to,
         flags,
-        body: 21,
-        body_length: size,
-        sequence_count: 0,
-        sequences,
+        entries,
         elements,
     }
 }

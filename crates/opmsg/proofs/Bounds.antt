@@ -2,7 +2,7 @@
 -- Assumes nothing.
 use Prim.Native.Nat.{ℕ, zero, suc, _+_, _-_, _^_, _≤_, _<_}
 use mathlib.Core.Bool.{Bool, true, false}
-use mathlib.Core.List.{List, [], _∷_, _++_, map}
+use mathlib.Core.List.{List, [], _∷_, _++_}
 use native.Mathlib.Omega.{arith}
 use lib.ListN.{length, getD, take, drop, length-take, length-drop}
 use lib.Dec.{eqb}
@@ -17,26 +17,30 @@ use Rattle.bson_elements.specs.Element.{elementSize}
 use Rattle.bson.specs.Document.{maxLevels}
 use Rattle.bson.proofs.Bounds.{Fault, UpTo, document-bounded}
 use Rattle.opmsg.specs.Layout.{maxLength, messageLength, sectionsEnd, sectionBytes}
-use Rattle.opmsg.specs.Sections.{Section, body, sequence, bodyStart, bodySize, sequencesOf, Parts, nothing, Run, nextDocument, bodySection, sequenceRun, sequenceNamed, sequenceSection, sectionOf, sectionAt}
-use Rattle.opmsg.specs.Names.{Name, distinct, elementNames, part, bodyNames, identifier, identifiers, texts}
+use Rattle.opmsg.specs.Sections.{bodyOf, Parts, nothing, Run, nextDocument, bodySection, sequenceRun, sequenceNamed, sequenceSection, sectionOf, sectionAt}
+use Rattle.opmsg.specs.Names.{Name, distinct, elementNames, part, bodyNames, identifiers, texts}
 use Rattle.opmsg.specs.Read.{header, flagged, parts, distinctNames, content, read}
 use Rattle.opmsg.specs.declared.Edition.{Edition}
+use Rattle.opmsg.specs.declared.Section.{Section}
+use Rattle.opmsg.specs.declared.Section.the-variants.{None, Body, Sequence}
 use Rattle.opmsg.proofs.Limits.{maxLength-small}
 use Rattle.opmsg.proofs.Accepted.{headed, flags-passed}
-use Rattle.opmsg.proofs.Section.{SectionRead, a-body, a-sequence, section-read}
+use Rattle.opmsg.proofs.SectionRead.{SectionRead, a-body, a-sequence, section-read}
 use Rattle.opmsg.proofs.Differ.{names-step, names-done}
 
 -- sections whose body and identifiers start at `to` at most
 abbrev Stand : (to : ℕ) → List Section → Type 0
 Stand to [] = Unit {0}
-Stand to (body place start size ∷ qs) = (start ≤ to) × Stand to qs
-Stand to (sequence place q ∷ qs) = (q .name ≤ to) × Stand to qs
+Stand to (None ∷ qs) = Stand to qs
+Stand to (Body range ∷ qs) = (range .start ≤ to) × Stand to qs
+Stand to (Sequence identifier documents number ∷ qs) = (identifier .start ≤ to) × Stand to qs
 
 module _ (to : ℕ) where
   stand-append : (qs rs : List Section) → Stand to qs → Stand to rs → Stand to (qs ++ rs)
   stand-append [] rs h k = k
-  stand-append (body place start size ∷ qs) rs h k = (h .0, stand-append qs rs (h .1) k)
-  stand-append (sequence place q ∷ qs) rs h k = (h .0, stand-append qs rs (h .1) k)
+  stand-append (None ∷ qs) rs h k = stand-append qs rs h k
+  stand-append (Body range ∷ qs) rs h k = (h .0, stand-append qs rs (h .1) k)
+  stand-append (Sequence identifier documents number ∷ qs) rs h k = (h .0, stand-append qs rs (h .1) k)
 
   -- one section more
   section-stands : {e : Edition} {at : ℕ} {xs : List ℕ} {p : Parts} {one : Step Parts} → at + length xs < to → 0 < length xs → Stand to (p .sections) → SectionRead e at xs p one
@@ -115,32 +119,34 @@ module _ (to : ℕ) where
       let n = elementSize (x ∷ xs) in
       rw (names-step turns at (x ∷ xs) (omega arith)) (omega arith, names-placed turns (at + n) (drop n (x ∷ xs)) (λ left. omega (arith, length-drop n (x ∷ xs))))
 
-  identifiers-placed : (xs : List ℕ) (qs : List Section) → Stand to qs → Placed (map (identifier xs) (sequencesOf qs))
-  unfolding sequencesOf identifier
+  identifiers-placed : (xs : List ℕ) (qs : List Section) → Stand to qs → Placed (identifiers xs qs)
+  unfolding identifiers
   identifiers-placed xs [] h = tt
-  identifiers-placed xs (body place start size ∷ qs) h = identifiers-placed xs qs (h .1)
-  identifiers-placed xs (sequence place q ∷ qs) h = (h .0, identifiers-placed xs qs (h .1))
+  identifiers-placed xs (None ∷ qs) h = identifiers-placed xs qs h
+  identifiers-placed xs (Body range ∷ qs) h = identifiers-placed xs qs (h .1)
+  identifiers-placed xs (Sequence identifier documents number ∷ qs) h = (h .0, identifiers-placed xs qs (h .1))
 
-  body-stands : (qs : List Section) → Stand to qs → bodyStart qs ≤ to
-  unfolding bodyStart
+  body-stands : (qs : List Section) → Stand to qs → bodyOf qs .start ≤ to
+  unfolding bodyOf
   body-stands [] h = omega arith
-  body-stands (body place start size ∷ qs) h = h .0
-  body-stands (sequence place q ∷ qs) h = body-stands qs (h .1)
+  body-stands (None ∷ qs) h = body-stands qs h
+  body-stands (Body range ∷ qs) h = h .0
+  body-stands (Sequence identifier documents number ∷ qs) h = body-stands qs (h .1)
 
 wider : {A : Type 0} {P : A → Type 0} {o : Outcome A} (to further : ℕ) → to ≤ further → Meets P (Fault to) o → Meets P (Fault further) o
 wider to further l m = other-fault (λ number place q. (q .0, q .1, q .2, omega (arith, q .3))) m
 
 -- the names of a body stand behind its start, in no more bytes than the sections have
 names-bounded : (to end : ℕ) (xs : List ℕ) (qs : List Section) → Stand to qs → end ≤ to → UpTo (to + 5 + length xs) (distinctNames end xs qs)
-unfolding distinctNames bodyNames identifiers part
+unfolding distinctNames bodyNames part
 names-bounded to end xs qs h l =
     let far = to + 5 + length xs in
-    let place = bodyStart qs + 4 in
-    let size = bodySize qs - 5 in
+    let place = bodyOf qs .start + 4 in
+    let size = bodyOf qs .length - 5 in
     let fits = length-take size (drop (place - 20) xs) in
     check 22 end _ _ (omega arith) λ _.
     then _ (distinct-bounded far 23 [] _ (omega arith) (omega arith)
-    (names-placed far (bodySize qs) place (part xs place size) (λ _. omega (arith, body-stands to qs h, fits, length-drop (place - 20) xs)))) λ _ _ _.
+    (names-placed far (bodyOf qs .length) place (part xs place size) (λ _. omega (arith, body-stands to qs h, fits, length-drop (place - 20) xs)))) λ _ _ _.
     wider to far (omega arith) (distinct-bounded to 24 (texts (bodyNames xs qs)) (identifiers xs qs) (omega arith) (omega arith) (identifiers-placed to xs qs h))
 
 -- ---- a whole message

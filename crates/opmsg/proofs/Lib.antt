@@ -1,9 +1,10 @@
 pub mod Limits
 pub mod Bits
-pub mod Section
+pub mod SectionRead
 pub mod Accepted
 pub mod Front
 pub mod Shown
+pub mod Entries
 pub mod Differ
 pub mod Answered
 pub mod Bounds

@@ -2,8 +2,8 @@
 -- Assumes nothing.
 use Prim.Native.Nat.{ℕ, _+_, _-_, _≤_}
 use mathlib.Core.Bool.{false, _||_}
-use mathlib.Core.Path.{_≡_, sym, _∙_, ap}
-use mathlib.Core.List.{List, [], _++_}
+use mathlib.Core.Path.{_≡_, refl, sym, _∙_, ap}
+use mathlib.Core.List.{List, [], _∷_, _++_}
 use native.Mathlib.Omega.{arith}
 use lib.ListN.{length, take, length-take}
 use lib.Seq.{take-at}
@@ -11,25 +11,38 @@ use lib.Dec.{eqb}
 use borrow.Author.Tests.{eq-eqb, ne-eqb}
 use Rattle.wire.specs.Outcome.{ok, refused}
 use Rattle.wire.proofs.Outcome.{pass, stop, go-on, halt}
-use Rattle.opmsg.specs.Sections.{Section, bodyStart, sequencesOf}
+use Rattle.opmsg.specs.Sections.{bodyOf, sequencesOf}
 use Rattle.opmsg.specs.Names.{among, distinct, elementNames, part, bodyNames, identifiers, texts}
-use Rattle.opmsg.specs.View.{padded}
 use Rattle.opmsg.specs.Read.{distinctNames}
-use Rattle.opmsg.specs.Inner.{Shows, Filled}
+use Rattle.opmsg.specs.Inner.{firstSections, Shows, Filled}
 use Rattle.opmsg_body_names.specs.Inner.{namesOf}
-use Rattle.opmsg.specs.declared.Sequence.{Sequence}
-use Rattle.opmsg_body_names.proofs.Texts.{among-append}
+use Rattle.opmsg.specs.declared.Section.{Section}
+use Rattle.opmsg.specs.declared.Section.the-variants.{None, Body, Sequence}
+use Rattle.opmsg.specs.declared.Entry.{Entry}
+use Rattle.opmsg.proofs.Shown.{nones, padded-shows}
+use Rattle.opmsg_body_names.proofs.Texts.{among-append, map-take}
 use Rattle.opmsg_body_names.proofs.Elements.{names-turns, names-of}
 use Rattle.opmsg_names.proofs.Table.{firstIdentifiers}
 
-module _ {qs : List Section} {start size : ℕ} {table : List Sequence} {number : ℕ} (s : Shows qs start size table number) (xs : List ℕ) where
-  sequences-shown : sequencesOf qs ≡ take number table
-  unfolding padded
-  sequences-shown = rw (← s .table-is) (sym (take-at (sequencesOf qs) _ number (s .number-is)))
+no-identifiers : (xs : List ℕ) (qs : List Section) → length (sequencesOf qs) ≡ 0 → identifiers xs qs ≡ []
+unfolding sequencesOf identifiers
+no-identifiers xs [] z = refl
+no-identifiers xs (None ∷ qs) z = no-identifiers xs qs z
+no-identifiers xs (Body range ∷ qs) z = no-identifiers xs qs z
+no-identifiers xs (Sequence i d n ∷ qs) z = absurd (omega (arith, z))
 
-  identifiers-shown : identifiers xs qs ≡ firstIdentifiers xs table number
-  unfolding identifiers
-  identifiers-shown = rw sequences-shown
+module _ {qs : List Section} {start size : ℕ} {entries : List Entry} {used sequences : ℕ} (s : Shows qs start size entries used sequences) (xs : List ℕ) where
+  sections-shown : qs ≡ firstSections used entries
+  sections-shown =
+      let says : Entry → Section = λ (x : Entry). x .section in
+      sym (take-at qs (nones (length qs)) used (s .used-is)) ∙ ap (take used) (sym (padded-shows qs)) ∙ rw (s .entries-is) (sym (map-take says used entries))
+
+  identifiers-shown : identifiers xs qs ≡ firstIdentifiers xs entries used
+  identifiers-shown = ap (identifiers xs) sections-shown
+
+  -- where there is no sequence there is no identifier
+  pub without-sequences : sequences ≡ 0 → firstIdentifiers xs entries used ≡ []
+  without-sequences z = sym identifiers-shown ∙ no-identifiers xs qs (s .sequences-is ∙ z)
 
   module _ (filled : Filled (part xs (start + 4) (size - 5))) where
     short : length (part xs (start + 4) (size - 5)) ≤ size
@@ -44,7 +57,7 @@ module _ {qs : List Section} {start size : ℕ} {table : List Sequence} {number 
     texts-shown = ap texts names-shown ∙ names-of _ _ _ filled (omega arith)
 
     pub taken-shown : (text : List ℕ) → among (texts (bodyNames xs qs) ++ texts (identifiers xs qs)) text
-        ≡ (among (namesOf (part xs (start + 4) (size - 5))) text || among (texts (firstIdentifiers xs table number)) text)
+        ≡ (among (namesOf (part xs (start + 4) (size - 5))) text || among (texts (firstIdentifiers xs entries used)) text)
     taken-shown text = among-append (texts (bodyNames xs qs)) (texts (identifiers xs qs)) text ∙ rw (texts-shown, identifiers-shown)
 
     module _ (end : ℕ) where
@@ -53,7 +66,7 @@ module _ {qs : List Section} {start size : ℕ} {table : List Sequence} {number 
       absent e = stop 22 end _ (eq-eqb _ _ (s .start-is ∙ e))
 
       module _ (some : start ≡ 0 → ⊥) where
-        there : eqb (bodyStart qs) 0 ≡ false
+        there : eqb (bodyOf qs .start) 0 ≡ false
         there = ne-eqb _ _ (λ e. some (sym (s .start-is) ∙ e))
 
         pub repeated : {number place : ℕ}
@@ -63,6 +76,6 @@ module _ {qs : List Section} {start size : ℕ} {table : List Sequence} {number 
         repeated e = pass 22 end _ there ∙ halt _ (ap (distinct 23 []) names-shown ∙ e)
 
         pub different : distinct 23 [] (elementNames (length (part xs (start + 4) (size - 5))) (start + 4) (part xs (start + 4) (size - 5))) ≡ ok tt
-            → distinctNames end xs qs ≡ distinct 24 (namesOf (part xs (start + 4) (size - 5))) (firstIdentifiers xs table number)
+            → distinctNames end xs qs ≡ distinct 24 (namesOf (part xs (start + 4) (size - 5))) (firstIdentifiers xs entries used)
         unfolding distinctNames
         different e = pass 22 end _ there ∙ go-on _ (ap (distinct 23 []) names-shown ∙ e) ∙ rw (texts-shown, identifiers-shown)

@@ -15,7 +15,7 @@ use Rattle.opmsg.specs.Sections.{Parts, nothing, sectionAt}
 use Rattle.opmsg.specs.View.{viewOf}
 use Rattle.opmsg.specs.Read.{parts, distinctNames, content}
 use Rattle.opmsg.specs.declared.Edition.{Edition}
-use Rattle.opmsg.proofs.Section.{section-steady}
+use Rattle.opmsg.proofs.SectionRead.{section-steady}
 
 -- s has n bytes, of which k are the checksum's
 module _ (e : Edition) (s : List ℕ) (n k : ℕ) (n-is : n ≡ word s) (k-is : k ≡ checksumSize (wordAt 16 s)) where

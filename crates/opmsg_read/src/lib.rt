@@ -12,35 +12,9 @@ use opmsg_view::view;
 use wire::word;
 ghost use mathlib.Core.Path.{_≡_};
 ghost use Rattle.opmsg.specs.View.{answer};
-ghost use Rattle.opmsg.specs.Read.{content, read};
-ghost use Rattle.opmsg_read.specs.Inner.{FlagsAccepted};
+ghost use Rattle.opmsg.specs.Read.{read};
 
-// Checks 10 to 24 of a message whose header and flag word were accepted, and its view.
-fn content(e: Edition, s: &[u8]) -> Reading
-    requires { ⌜ FlagsAccepted (now s) ⌝ }
-    ensures { λ r. ⌜ r ≡ answer (content e (now (s .entry))) ⌝ }
-{
-    let length = word(s) as usize;
-    let end = length - checksum_size(word(&s[16..])) as usize;
-    let xs = &s[20..end];
-    let c = sections(e, xs);
-    let read = c.verdict;
-    if let Verdict::Refused { number, place } = read {
-        return refusal(number, place);
-    }
-    let sequences = c.sequences;
-    let distinct = distinct_names(end, xs, c.body, c.body_length, sequences, c.count);
-    if let Verdict::Refused { number, place } = distinct {
-        return refusal(number, place);
-    }
-    let view = view(e, s, c);
-    Reading {
-        verdict: Verdict::Accepted,
-        view,
-    }
-}
-
-// Reads the message at the start of s.
+// Reads the message at the start of s. What is kept of its sections goes to the view by one way alone, since a list is dear to copy.
 pub fn read(e: Edition, s: &[u8]) -> Reading
     ensures { λ r. ⌜ r ≡ answer (read e (now (s .entry))) ⌝ }
 {
@@ -52,5 +26,22 @@ pub fn read(e: Edition, s: &[u8]) -> Reading
     if let Verdict::Refused { number, place } = flags {
         return refusal(number, place);
     }
-    content(e, s)
+    let length = word(s) as usize;
+    let end = length - checksum_size(word(&s[16..])) as usize;
+    let xs = &s[20..end];
+    let c = sections(e, xs);
+    let passed = c.verdict;
+    if let Verdict::Refused { number, place } = passed {
+        return refusal(number, place);
+    }
+    let entries = c.entries;
+    let distinct = distinct_names(end, xs, c.body, c.body_length, entries, c.used, c.sequences);
+    if let Verdict::Refused { number, place } = distinct {
+        return refusal(number, place);
+    }
+    let view = view(e, s, c);
+    Reading {
+        verdict: Verdict::Accepted,
+        view,
+    }
 }

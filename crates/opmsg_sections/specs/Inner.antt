@@ -5,7 +5,7 @@ use mathlib.Core.List.{List}
 use mathlib.Core.Path.{_≡_}
 use Rattle.wire.specs.Outcome.{ok, refused}
 use Rattle.wire.specs.Walk.{walk}
-use Rattle.opmsg.specs.Sections.{maxSequences, Parts, nothing, sectionAt}
+use Rattle.opmsg.specs.Sections.{maxSections, Parts, nothing, sectionAt}
 use Rattle.opmsg.specs.Names.{part}
 use Rattle.opmsg.specs.declared.Edition.{Edition}
 use Rattle.opmsg.specs.declared.Verdict.{Verdict}
@@ -17,9 +17,9 @@ use Rattle.opmsg.specs.Inner.{Shows, Filled}
 pub record Gathered (e : Edition) (xs : List ℕ) (c : Content) : Type 0 where
   pub parts : Parts
   pub read : walk (sectionAt e) (lib.ListN.length xs) 20 xs nothing ≡ ok parts
-  pub shows : Shows (parts .sections) (c .body) (c .«body_length») (c .sequences) (c .count)
+  pub shows : Shows (parts .sections) (c .body) (c .«body_length») (c .entries) (c .used) (c .sequences)
   pub elements-is : parts .elements ≡ c .elements
-  pub few : c .count ≤ maxSequences
+  pub few : c .used ≤ maxSections
   pub near : c .body + c .«body_length» ≤ 20 + lib.ListN.length xs
   pub filled : Filled (part xs (c .body + 4) (c .«body_length» - 5))
 

@@ -2,8 +2,11 @@
 use bson::Walk;
 use opmsg::Content;
 use opmsg::Edition;
+use opmsg::Entry;
+use opmsg::Range;
+use opmsg::Section;
 use opmsg::Verdict;
-use opmsg::no_sequence;
+use opmsg::no_entries;
 use opmsg_sequences::Part;
 use opmsg_sequences::refused;
 use opmsg_sequences::sequence_section;
@@ -33,9 +36,9 @@ fn body_section(xs: &[u8], at: usize, start: usize, elements: u32) -> Part
 }
 
 // The section at the start of xs.
-fn section(e: Edition, xs: &[u8], at: usize, start: usize, count: usize, elements: u32) -> Part
+fn section(e: Edition, xs: &[u8], at: usize, start: usize, sequences: usize, elements: u32) -> Part
     requires { ⌜ (0 < length (now xs)) × (at + length (now xs) < 2 ^ 31) ⌝ }
-    ensures is { λ r. ⌜ ((p : Parts) → PassedNumbers p start count elements → partOf at p r ≡ sectionAt e at (now (xs .entry)) p) ⌝ }
+    ensures is { λ r. ⌜ ((p : Parts) → PassedNumbers p start sequences elements → partOf at p r ≡ sectionAt e at (now (xs .entry)) p) ⌝ }
     ensures inside { λ r. ⌜ PartWithin (now (xs .entry)) r ⌝ }
 {
     let kind = xs[0];
@@ -48,21 +51,21 @@ fn section(e: Edition, xs: &[u8], at: usize, start: usize, count: usize, element
     if !e.sequences {
         return refused(10, at);
     }
-    sequence_section(xs, at, count, elements)
+    sequence_section(xs, at, sequences, elements)
 }
 
 // No sections, with a verdict.
 fn nothing(verdict: Verdict) -> Content
     ensures { λ r. ⌜ r .verdict ≡ verdict ⌝ }
 {
-    let none = no_sequence();
-    let sequences = [none; 16];
+    let entries = no_entries();
     Content {
         verdict,
         body: 0,
         body_length: 0,
-        count: 0,
-        sequences,
+        used: 0,
+        sequences: 0,
+        entries,
         elements: 0,
     }
 }
@@ -75,29 +78,44 @@ pub fn sections(e: Edition, xs: &[u8]) -> Content
     let mut i = 0;
     let mut body = 0;
     let mut body_length = 0;
-    let mut count = 0;
-    let none = no_sequence();
-    let mut sequences = [none; 16];
+    let mut used = 0;
+    let mut sequences = 0;
+    let mut entries = no_entries();
     let mut elements = 0;
     while i < xs.len() {
         let at = 20 + i;
-        match section(e, &xs[i..], at, body, count, elements) {
+        match section(e, &xs[i..], at, body, sequences, elements) {
             Part::Body {
                 size,
                 elements: counted,
             } => {
                 body = at + 1;
                 body_length = size;
+                let range = Range {
+                    start: body as u32,
+                    length: size as u32,
+                };
+                let section = Section::Body(range);
+                entries[used] = Entry { section };
+                used += 1;
                 elements = counted;
                 i += 1 + size;
             }
             Part::Sequenced {
-                entry,
+                identifier,
+                documents,
+                number,
                 size,
                 elements: counted,
             } => {
-                sequences[count] = entry;
-                count += 1;
+                let section = Section::Sequence {
+                    identifier,
+                    documents,
+                    number,
+                };
+                entries[used] = Entry { section };
+                used += 1;
+                sequences += 1;
                 elements = counted;
                 i += size;
             }
@@ -110,8 +128,9 @@ pub fn sections(e: Edition, xs: &[u8]) -> Content
         verdict: Verdict::Accepted,
         body,
         body_length,
-        count,
+        used,
         sequences,
+        entries,
         elements,
     }
 }

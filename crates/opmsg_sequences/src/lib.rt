@@ -1,5 +1,5 @@
 // Checks 12 to 21: a section that is a document sequence. A slice starts at the place `at` of the message, and ends below 2 ^ 31.
-use opmsg::Sequence;
+use opmsg::Range;
 use opmsg_documents::Counted;
 use opmsg_documents::documents;
 use utf8::ZeroEnded;
@@ -23,7 +23,9 @@ pub enum Part {
         elements: u32,
     },
     Sequenced {
-        entry: Sequence,
+        identifier: Range,
+        documents: Range,
+        number: u32,
         size: usize,
         elements: u32,
     },
@@ -50,18 +52,21 @@ fn sequence_documents(xs: &[u8], at: usize, n: usize, size: usize, elements: u32
     let end = 1 + size;
     match documents(&xs[start..end], (at + start) as u32, elements) {
         Counted::Past {
-            documents,
+            documents: number,
             elements: counted,
         } => {
-            let entry = Sequence {
-                name: (at + 5) as u32,
-                name_length: n as u32,
+            let identifier = Range {
+                start: (at + 5) as u32,
+                length: n as u32,
+            };
+            let documents = Range {
                 start: (at + start) as u32,
-                end: (at + end) as u32,
-                documents,
+                length: (end - start) as u32,
             };
             Part::Sequenced {
-                entry,
+                identifier,
+                documents,
+                number,
                 size: end,
                 elements: counted,
             }

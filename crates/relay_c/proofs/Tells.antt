@@ -24,17 +24,17 @@ use Rattle.relay_c.specs.Results.{Told, ResultsTell}
 
 -- ---- the place of a refusal, where a result is made of it
 
-pub answer-placed : (o : Outcome View) (r : Reading) → Bounded o → r ≡ answer o → Placed (r .verdict)
+pub answer-placed : {last : ℕ} (o : Outcome View) (r : Reading) → Bounded last o → r ≡ answer o → Placed (r .verdict)
 unfolding answer
 answer-placed (ok v) r b e = rw e tt
 answer-placed (refused number place) r b e = rw e (b number place refl .3)
 
-pub viewed-placed : (o : Outcome Written) (r : Reading) → Bounded o → r ≡ answer (viewed o) → Placed (r .verdict)
+pub viewed-placed : {last : ℕ} (o : Outcome Written) (r : Reading) → Bounded last o → r ≡ answer (viewed o) → Placed (r .verdict)
 unfolding answer viewed _>>=_
 viewed-placed (ok w) r b e = rw e tt
 viewed-placed (refused number place) r b e = rw e (b number place refl .3)
 
-pub decided-placed : (o : Outcome Written) (v : Verdict) → Bounded o → judged v ≡ decided o → Placed v
+pub decided-placed : {last : ℕ} (o : Outcome Written) (v : Verdict) → Bounded last o → judged v ≡ decided o → Placed v
 unfolding decided _>>=_
 decided-placed o Accepted b d = tt
 decided-placed (ok w) (Refused number place) b d = not-ok d
@@ -43,13 +43,13 @@ decided-placed (refused m q) (Refused number place) b d = let e : place ≡ q = 
 -- ---- what the result tells
 
 -- no room for the view is refused with 25 at 0
-room-bounded : {A : Type 0} (shown : ℕ) (o : Outcome A) → Bounded o → Bounded (withRoom shown o)
+room-bounded : {A : Type 0} {last : ℕ} → 25 ≤ last → (shown : ℕ) (o : Outcome A) → Bounded last o → Bounded last (withRoom shown o)
 unfolding withRoom _>>=_
-room-bounded {A} shown (ok a) b number place h =
-    missed {P = λ (_ : A). Unit {0}} {Q = λ n p. (1 ≤ n) × (n ≤ 27) × ¬ (n ≡ 26) × (p < 2 ^ 32)} (check 25 0 (ltb shown viewSize) (λ _. ok a) (omega arith) λ _. good tt) h
-room-bounded shown (refused n p) b number place h = b number place h
+room-bounded {A} {last} l shown (ok a) b number place h =
+    missed {P = λ (_ : A). Unit {0}} {Q = λ n p. (1 ≤ n) × (n ≤ last) × ¬ (n ≡ 26) × (p < 2 ^ 32)} (check 25 0 (ltb shown viewSize) (λ _. ok a) (omega arith) λ _. good tt) h
+room-bounded l shown (refused n p) b number place h = b number place h
 
-told : {A : Type 0} (o : Outcome A) → Bounded o → Told o
+told : {A : Type 0} {last : ℕ} (o : Outcome A) → Bounded last o → Told o
 unfolding result
 told (ok a) b = record { zero-accepts = (λ _. (a, refl), λ _. refl); halves = λ number place h. not-ok (sym h) }
 told (refused n p) b =
@@ -66,8 +66,9 @@ pub results-tell : ResultsTell
 results-tell =
     let r = refusals-bounded in
     record {
-      reads = λ e s shown. told _ (room-bounded shown _ (r .reads e s));
-      forwards = λ e s room shown. told _ (room-bounded shown _ (r .forwards e s room));
-      writes = λ e i j flags body room shown. told _ (room-bounded shown _ (r .writes e i j flags body room));
-      appends = λ e s identifier documents room shown. told _ (room-bounded shown _ (r .appends e s identifier documents room));
+      reads = λ e s shown. told _ (room-bounded (omega arith) shown _ (r .reads e s));
+      forwards = λ e s room shown. told _ (room-bounded (omega arith) shown _ (r .forwards e s room));
+      writes = λ e i j flags body room shown. told _ (room-bounded (omega arith) shown _ (r .writes e i j flags body room));
+      appends = λ e s identifier documents room shown. told _ (room-bounded (omega arith) shown _ (r .appends e s identifier documents room));
+      moves = λ e s behind room shown. told _ (room-bounded (omega arith) shown _ (r .moves e s behind room));
     }

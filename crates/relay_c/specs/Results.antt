@@ -1,4 +1,4 @@
--- What C and Rust rely on of the results of the four calls.
+-- What C and Rust rely on of the results of the five calls.
 -- Assumes nothing: these are definitions.
 use Prim.Native.Nat.{ℕ, _/_, _%_, _^_}
 use mathlib.Core.Path.{_≡_}
@@ -10,6 +10,7 @@ use Rattle.opmsg.specs.Read.{read}
 use Rattle.message.specs.Forward.{forward}
 use Rattle.message.specs.Write.{write}
 use Rattle.message.specs.Append.{append}
+use Rattle.message.specs.Move.{move}
 use Rattle.relay_c_results.specs.Interface.{withRoom, result}
 use Rattle.opmsg.specs.declared.Edition.{Edition}
 
@@ -25,3 +26,4 @@ pub record ResultsTell : Type 0 where
   pub forwards : (e : Edition) (s : List ℕ) (room shown : ℕ) → Told (withRoom shown (forward e s room))
   pub writes : (e : Edition) (requestId responseTo : ℤ) (flags : ℕ) (body : List ℕ) (room shown : ℕ) → Told (withRoom shown (write e requestId responseTo flags body room))
   pub appends : (e : Edition) (s identifier documents : List ℕ) (room shown : ℕ) → Told (withRoom shown (append e s identifier documents room))
+  pub moves : (e : Edition) (s : List ℕ) (behind room shown : ℕ) → Told (withRoom shown (move e s behind room))

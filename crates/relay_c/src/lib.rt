@@ -14,6 +14,7 @@ ghost use Rattle.message.specs.Message.{viewed, output};
 ghost use Rattle.message.specs.Forward.{forward};
 ghost use Rattle.message.specs.Write.{write};
 ghost use Rattle.message.specs.Append.{append};
+ghost use Rattle.message.specs.Move.{move};
 ghost use Rattle.relay_c_results.specs.Interface.{editionOf, withRoom, result, numbers};
 
 #[no_mangle]
@@ -101,4 +102,24 @@ pub extern "C" fn relay_append(
         message_append::append(e, message, identifier, documents, out),
         view,
     )
+}
+
+#[no_mangle]
+pub extern "C" fn relay_move(
+    bits: u32,
+    sequences: u8,
+    message: &[u8],
+    behind: u32,
+    out: &mut [u8],
+    view: &mut [i64],
+) -> u64
+    ensures answers { λ r. ⌜ r ≡ result (withRoom (length (now (view .entry))) (move (editionOf bits sequences) (now (message .entry)) behind (length (now (out .entry))))) ⌝ }
+    ensures writes { λ _. ⌜ now (out .exit) ≡ output (withRoom (length (now (view .entry))) (move (editionOf bits sequences) (now (message .entry)) behind (length (now (out .entry))))) (now (out .entry)) ⌝ }
+    ensures shows { λ _. ⌜ now (view .exit) ≡ numbers (viewed (withRoom (length (now (view .entry))) (move (editionOf bits sequences) (now (message .entry)) behind (length (now (out .entry)))))) (now (view .entry)) ⌝ }
+{
+    let e = edition(bits, sequences);
+    if view.len() < NUMBERS {
+        return without_view(message_move::check(e, message, behind, out.len()));
+    }
+    answered(message_move::move_body(e, message, behind, out), view)
 }

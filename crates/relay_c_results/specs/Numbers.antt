@@ -2,23 +2,27 @@
 -- Assumes nothing: these are definitions.
 use Prim.Native.Nat.{ℕ}
 use mathlib.Core.List.{List, [], _∷_, _++_}
-use lib.IntN.{ℤ, pos}
-use Rattle.opmsg.specs.declared.Sequence.{Sequence}
+use lib.IntN.{ℤ, pos, negsuc}
+use Rattle.opmsg.specs.declared.Section.{Section}
+use Rattle.opmsg.specs.declared.Section.the-variants.{None, Body, Sequence}
+use Rattle.opmsg.specs.declared.Entry.{Entry}
 use Rattle.opmsg.specs.declared.View.{View}
 
--- the numbers of a sequence, of a table of them, and of a view
-unfoldable pub sequenceNumbers : Sequence → List ℤ
-sequenceNumbers q = pos (q .name) ∷ pos (q .«name_length») ∷ pos (q .start) ∷ pos (q .end) ∷ pos (q .documents) ∷ []
+-- the numbers of an entry: its kind, -1 for none; an identifier's start and length; the start and the length of what it holds, and the number of documents
+unfoldable pub sectionNumbers : Section → List ℤ
+sectionNumbers None = negsuc 0 ∷ pos 0 ∷ pos 0 ∷ pos 0 ∷ pos 0 ∷ pos 0 ∷ []
+sectionNumbers (Body range) = pos 0 ∷ pos 0 ∷ pos 0 ∷ pos (range .start) ∷ pos (range .length) ∷ pos 0 ∷ []
+sectionNumbers (Sequence identifier documents number) =
+    pos 1 ∷ pos (identifier .start) ∷ pos (identifier .length) ∷ pos (documents .start) ∷ pos (documents .length) ∷ pos number ∷ []
 
-unfoldable pub tableNumbers : List Sequence → List ℤ
-tableNumbers [] = []
-tableNumbers (q ∷ qs) = sequenceNumbers q ++ tableNumbers qs
+-- of a list of entries, and of a view
+unfoldable pub listNumbers : List Entry → List ℤ
+listNumbers [] = []
+listNumbers (x ∷ xs) = sectionNumbers (x .section) ++ listNumbers xs
 
 unfoldable pub viewNumbers : View → List ℤ
-viewNumbers v =
-    pos (v .length) ∷ v .«request_id» ∷ v .«response_to» ∷ pos (v .flags) ∷ pos (v .body) ∷ pos (v .«body_length») ∷ pos (v .«sequence_count») ∷ pos (v .elements)
-    ∷ tableNumbers (v .sequences)
+viewNumbers v = pos (v .length) ∷ v .«request_id» ∷ v .«response_to» ∷ pos (v .flags) ∷ pos (v .elements) ∷ listNumbers (v .entries)
 
 -- how many numbers a view has
 unfoldable pub viewSize : ℕ
-viewSize = 88
+viewSize = 107

@@ -13,7 +13,7 @@ ghost use Rattle.relay_c_results.specs.Interface.{editionOf, outcome, wi
 ghost use Rattle.relay_c_results.specs.Inner.{Placed};
 
 // How many numbers a view takes.
-pub const NUMBERS: usize = 88;
+pub const NUMBERS: usize = 107;
 
 // An edition by its numbers.
 pub fn edition(bits: u32, sequences: u8) -> Edition

@@ -1,33 +1,78 @@
 // A view as numbers.
-use opmsg::Sequence;
+use opmsg::Section;
 use opmsg::View;
-ghost use mathlib.Core.List.{_++_};
+ghost use mathlib.Core.List.{[], _∷_, _++_};
 ghost use mathlib.Core.Path.{_≡_};
 ghost use Prim.Native.Nat.{_+_, _≤_};
-ghost use lib.ListN.{length, take, drop};
-ghost use Rattle.relay_c_results.specs.Numbers.{sequenceNumbers, tableNumbers, viewNumbers, viewSize};
+ghost use lib.IntN.{pos};
+ghost use lib.ListN.{length, take, drop, replicate};
+ghost use Rattle.opmsg.proofs.Entries.{noEntry};
+ghost use Rattle.relay_c_results.specs.Numbers.{sectionNumbers, listNumbers, viewNumbers, viewSize};
 
-// The five numbers of a sequence, at a place.
-fn sequence(out: &mut [i64], at: usize, q: Sequence)
-    requires { ⌜ at + 5 ≤ length (now out) ⌝ }
-    ensures { λ _. ⌜ now (out .exit) ≡ take at (now (out .entry)) ++ sequenceNumbers q ++ drop (at + 5) (now (out .entry)) ⌝ }
+// Six numbers, at a place: a kind, and five that have no sign.
+fn six(out: &mut [i64], at: usize, kind: i64, a: u32, b: u32, c: u32, d: u32, e: u32)
+    requires { ⌜ at + 6 ≤ length (now out) ⌝ }
+    ensures { λ _. ⌜ now (out .exit) ≡ take at (now (out .entry)) ++ (kind ∷ pos a ∷ pos b ∷ pos c ∷ pos d ∷ pos e ∷ []) ++ drop (at + 6) (now (out .entry)) ⌝ }
 {
-    out[at] = q.name as i64;
-    out[at + 1] = q.name_length as i64;
-    out[at + 2] = q.start as i64;
-    out[at + 3] = q.end as i64;
-    out[at + 4] = q.documents as i64;
+    out[at] = kind;
+    out[at + 1] = a as i64;
+    out[at + 2] = b as i64;
+    out[at + 3] = c as i64;
+    out[at + 4] = d as i64;
+    out[at + 5] = e as i64;
 }
 
-// The numbers of all sequences, from the eighth on.
-fn table(out: &mut [i64], sequences: [Sequence; 16])
-    requires { ⌜ 88 ≤ length (now out) ⌝ }
-    ensures { λ _. ⌜ now (out .exit) ≡ take 8 (now (out .entry)) ++ tableNumbers sequences ++ drop 88 (now (out .entry)) ⌝ }
+// The numbers of an entry, at a place.
+fn entry(out: &mut [i64], at: usize, section: Section)
+    requires { ⌜ at + 6 ≤ length (now out) ⌝ }
+    ensures { λ _. ⌜ now (out .exit) ≡ take at (now (out .entry)) ++ sectionNumbers section ++ drop (at + 6) (now (out .entry)) ⌝ }
+{
+    match section {
+        Section::None => six(out, at, -1, 0, 0, 0, 0, 0),
+        Section::Body(range) => six(out, at, 0, 0, 0, range.start, range.length, 0),
+        Section::Sequence {
+            identifier,
+            documents,
+            number,
+        } => six(
+            out,
+            at,
+            1,
+            identifier.start,
+            identifier.length,
+            documents.start,
+            documents.length,
+            number,
+        ),
+    }
+}
+
+// The numbers of a list whose entries all say none, from the fifth on.
+fn blank(out: &mut [i64])
+    requires { ⌜ 107 ≤ length (now out) ⌝ }
+    ensures { λ _. ⌜ now (out .exit) ≡ take 5 (now (out .entry)) ++ listNumbers (replicate 17 noEntry) ++ drop 107 (now (out .entry)) ⌝ }
 {
     let mut i: usize = 0;
-    while i < 16 {
-        let q = sequences[i];
-        sequence(out, 8 + 5 * i, q);
+    while i < 17 {
+        six(out, 5 + 6 * i, -1, 0, 0, 0, 0, 0);
+        i += 1;
+    }
+}
+
+// The numbers of all entries. Most say none, so those are stored first, at once.
+fn list(out: &mut [i64], v: View)
+    requires { ⌜ 107 ≤ length (now out) ⌝ }
+    ensures { λ _. ⌜ now (out .exit) ≡ take 5 (now (out .entry)) ++ listNumbers (v .entries) ++ drop 107 (now (out .entry)) ⌝ }
+{
+    blank(out);
+    let mut i: usize = 0;
+    while i < 17 {
+        let x = v.entries[i];
+        let section = x.section;
+        match section {
+            Section::None => {}
+            _ => entry(out, 5 + 6 * i, section),
+        }
         i += 1;
     }
 }
@@ -41,10 +86,6 @@ pub fn show(v: View, out: &mut [i64])
     out[1] = v.request_id as i64;
     out[2] = v.response_to as i64;
     out[3] = v.flags as i64;
-    out[4] = v.body as i64;
-    out[5] = v.body_length as i64;
-    out[6] = v.sequence_count as i64;
-    out[7] = v.elements as i64;
-    let sequences = v.sequences;
-    table(out, sequences);
+    out[4] = v.elements as i64;
+    list(out, v);
 }

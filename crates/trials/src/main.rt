@@ -1,11 +1,15 @@
 // Document 01's trials T1 to T14, run through the code: each answer is written as a line, and below it the message where one is written.
+use relay::Range;
 use relay::Reading;
+use relay::Section;
 use relay::Verdict;
 use relay::View;
 use relay::append;
+use relay::body;
 use relay::forward;
 use relay::house;
 use relay::read;
+use relay::sequence_count;
 ghost use mathlib.Core.Path.{_≡_};
 ghost use lib.ListN.{length};
 
@@ -21,17 +25,53 @@ fn refused(n: u32, place: usize) {
     io::print_decimal(1, place as u64);
 }
 
+fn part(range: Range) {
+    number(range.start);
+    number(range.length);
+}
+
+// What an entry says; where it says none, nothing.
+fn said(section: Section) {
+    match section {
+        Section::None => {}
+        Section::Body(range) => {
+            io::write_all(1, b"\tbody");
+            part(range);
+        }
+        Section::Sequence {
+            identifier,
+            documents,
+            number: count,
+        } => {
+            io::write_all(1, b"\tsequence");
+            part(identifier);
+            part(documents);
+            number(count);
+        }
+    }
+}
+
+// The list of a view, in the message's order.
+fn list(v: View) {
+    let entries = v.entries;
+    for i in 0..17 {
+        let entry = entries[i];
+        let section = entry.section;
+        said(section);
+    }
+}
+
 fn accepted(v: View) {
     io::write_all(1, b"\taccepted");
     number(v.length);
     number(v.flags);
-    number(v.body);
-    number(v.body_length);
-    number(v.sequence_count);
+    part(body(v));
+    number(sequence_count(v));
     number(v.elements);
+    list(v);
 }
 
-// A trial's name and its answer: numbers of the view, or `refused`, number and place.
+// A trial's name and its answer: numbers of the view and its list, or `refused`, number and place.
 fn line(name: &[u8], r: Reading) {
     io::write_all(1, name);
     let verdict = r.verdict;

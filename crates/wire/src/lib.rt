@@ -1,7 +1,7 @@
-// Numbers and texts in bytes: little-endian words, signed words, the search for a zero byte.
+// Numbers and texts in bytes: little-endian words, signed words, the search for a zero byte, the bytes from a place on.
 ghost use mathlib.Core.Path.{_≡_};
 ghost use Prim.Native.Nat.{_<_};
-ghost use lib.ListN.{getD};
+ghost use lib.ListN.{getD, take, drop};
 ghost use Rattle.wire.specs.Bytes.{word, under, signed, bits32, untilZero};
 
 // The byte at place i; 0 past the end.
@@ -52,4 +52,18 @@ pub fn until_zero(s: &[u8]) -> usize
         i += 1;
     }
     i
+}
+
+// The n bytes from a place on, or those of them that there are.
+pub fn stretch(s: &[u8], place: usize, n: usize) -> &[u8]
+    ensures { λ r. ⌜ now r ≡ take n (drop place (now (s .entry))) ⌝ }
+{
+    if s.len() <= place {
+        return &s[..0];
+    }
+    if s.len() - place <= n {
+        return &s[place..];
+    }
+    let end = place + n;
+    &s[place..end]
 }

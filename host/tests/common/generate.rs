@@ -3,7 +3,7 @@
 use super::bson::*;
 use super::message::*;
 use super::random::Random;
-use super::reference::{Edition, MAX_MESSAGE};
+use super::reference::{self, Edition, MAX_MESSAGE};
 use super::text::{any_string_text, any_text, faulty_text};
 
 /// How a document is made.
@@ -398,25 +398,47 @@ pub fn any_style(random: &mut Random) -> Style {
     }
 }
 
-/// A body, a number of sequences, and the body at any place.
+/// A body, a number of sequences, and the body at any place, often as the first
+/// or the last section.
 fn any_sections(random: &mut Random, edition: &Edition, style: Style) -> Vec<Section> {
     let count = match random.below(20) {
         _ if !edition.sequences && !random.percent(10) => 0,
-        0..=6 => 0,
-        7..=15 => random.between(1, 3),
-        16..=17 => random.between(4, 14),
+        0..=4 => 0,
+        5..=12 => random.between(1, 3),
+        13..=16 => random.between(4, 14),
         _ => random.between(15, 17),
     };
     let mut sections: Vec<Section> = (0..count)
         .map(|index| any_sequence(random, style, index))
         .collect();
-    let place = if random.percent(50) {
-        0
-    } else {
-        random.below(count + 1)
+    let place = match random.below(10) {
+        0..=3 => 0,
+        4..=5 => count,
+        _ => random.below(count + 1),
     };
     sections.insert(place, Section::Body(any_document(random, style)));
     sections
+}
+
+/// How many sequences the body of this message shall be moved behind: as many
+/// as there are, fewer, or too many.
+pub fn any_behind(random: &mut Random, edition: &Edition, message: &[u8]) -> u32 {
+    let count = match reference::read(edition, message) {
+        Ok(view) => view.sequences().len(),
+        Err(_) => random.below(4),
+    };
+    let right = random.below(count + 1) as u32;
+    match random.below(20) {
+        0..=9 => right,
+        10..=11 => 0,
+        12..=14 => count as u32,
+        15..=16 => count as u32 + 1,
+        17 => count as u32 + 2,
+        // Right but for bits that a shorter number does not have.
+        18 => right + random.pick(&[1 << 8, 1 << 16, 1 << 31]),
+        _ if random.percent(50) => random.next() as u32,
+        _ => random.pick(&[16, 17, 18, 255, u32::MAX]),
+    }
 }
 
 fn any_sequence(random: &mut Random, style: Style, index: usize) -> Section {

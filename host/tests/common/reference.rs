@@ -1,6 +1,7 @@
-//! An independent reader, forwarder, writer and appender, written from the
-//! rules of document 01, change request 4 and RFC 3629 and from nothing else.
-//! It is plain and slow on purpose: the tests hold the library against it.
+//! An independent reader, forwarder, writer, appender and mover, written from
+//! the rules of document 01, change requests 4 and 5 and RFC 3629 and from
+//! nothing else. It is plain and slow on purpose: the tests hold the library
+//! against it.
 
 use std::collections::HashSet;
 use std::ops::Range;
@@ -9,7 +10,8 @@ pub const MAX_MESSAGE: usize = 49_152;
 pub const MAX_SEQUENCES: usize = 16;
 pub const MAX_LEVEL: usize = 32;
 pub const MAX_ELEMENTS: usize = 4_096;
-pub const VIEW_NUMBERS: usize = 88;
+pub const MAX_SECTIONS: usize = 17;
+pub const VIEW_NUMBERS: usize = 107;
 
 /// A refusal's number and place.
 #[derive(Clone, Copy, Debug, PartialEq, Eq)]
@@ -92,9 +94,16 @@ pub struct View {
     pub request_id: i32,
     pub response_to: i32,
     pub flags: u32,
-    pub body: Range<usize>,
-    pub sequences: Vec<Sequence>,
     pub elements: usize,
+    /// In message order.
+    pub sections: Vec<Section>,
+}
+
+#[derive(Clone, Debug, PartialEq, Eq)]
+pub enum Section {
+    /// The body's document.
+    Body(Range<usize>),
+    Sequence(Sequence),
 }
 
 #[derive(Clone, Debug, PartialEq, Eq)]
@@ -105,27 +114,76 @@ pub struct Sequence {
 }
 
 impl View {
-    /// The 88 numbers of the C interface.
-    pub fn numbers(&self) -> [i64; VIEW_NUMBERS] {
-        let mut numbers = [0; VIEW_NUMBERS];
-        numbers[0] = self.length as i64;
-        numbers[1] = i64::from(self.request_id);
-        numbers[2] = i64::from(self.response_to);
-        numbers[3] = i64::from(self.flags);
-        numbers[4] = self.body.start as i64;
-        numbers[5] = self.body.len() as i64;
-        numbers[6] = self.sequences.len() as i64;
-        numbers[7] = self.elements as i64;
-        for (i, sequence) in self.sequences.iter().enumerate() {
-            let at = 8 + 5 * i;
-            numbers[at] = sequence.identifier.start as i64;
-            numbers[at + 1] = sequence.identifier.len() as i64;
-            numbers[at + 2] = sequence.documents.start as i64;
-            numbers[at + 3] = sequence.documents.end as i64;
-            numbers[at + 4] = sequence.count as i64;
-        }
-        numbers
+    pub fn body(&self) -> Range<usize> {
+        let mut sections = self.sections.iter();
+        let body = sections.find_map(|section| match section {
+            Section::Body(document) => Some(document.clone()),
+            Section::Sequence(_) => None,
+        });
+        body.expect("an accepted message has a body")
     }
+
+    pub fn sequences(&self) -> Vec<&Sequence> {
+        sequences_of(&self.sections)
+    }
+
+    /// How many sequences stand before the body.
+    pub fn behind(&self) -> usize {
+        let mut sections = self.sections.iter();
+        let place = sections.position(|section| matches!(section, Section::Body(_)));
+        place.expect("an accepted message has a body")
+    }
+
+    /// The 107 numbers of the C interface.
+    pub fn numbers(&self) -> [i64; VIEW_NUMBERS] {
+        let mut numbers = vec![
+            self.length as i64,
+            i64::from(self.request_id),
+            i64::from(self.response_to),
+            i64::from(self.flags),
+            self.elements as i64,
+        ];
+        for section in &self.sections {
+            numbers.extend(section.numbers());
+        }
+        for _ in self.sections.len()..MAX_SECTIONS {
+            numbers.extend([-1, 0, 0, 0, 0, 0]);
+        }
+        numbers.try_into().expect("as many as there are")
+    }
+}
+
+impl Section {
+    /// Where the section stands: its kind byte and all that follows it.
+    fn whole(&self) -> Range<usize> {
+        match self {
+            Section::Body(document) => document.start - 1..document.end,
+            // A kind byte and a size stand before the identifier.
+            Section::Sequence(sequence) => sequence.identifier.start - 5..sequence.documents.end,
+        }
+    }
+
+    fn numbers(&self) -> [i64; 6] {
+        match self {
+            Section::Body(document) => [0, 0, 0, document.start as i64, document.len() as i64, 0],
+            Section::Sequence(sequence) => [
+                1,
+                sequence.identifier.start as i64,
+                sequence.identifier.len() as i64,
+                sequence.documents.start as i64,
+                sequence.documents.len() as i64,
+                sequence.count as i64,
+            ],
+        }
+    }
+}
+
+fn sequences_of(sections: &[Section]) -> Vec<&Sequence> {
+    let sequences = sections.iter().filter_map(|section| match section {
+        Section::Body(_) => None,
+        Section::Sequence(sequence) => Some(sequence),
+    });
+    sequences.collect()
 }
 
 fn refuse<T>(number: u32, place: usize) -> Result<T, Refused> {
@@ -235,20 +293,19 @@ pub fn read(edition: &Edition, buffer: &[u8]) -> Result<View, Refused> {
     let message = &buffer[..length];
     let flags = read_flags(edition, message)?;
     let end = sections_end(message, flags)?;
-    let sections = read_sections(edition, message, end)?;
-    let Some(body) = sections.body else {
+    let found = read_sections(edition, message, end)?;
+    let Some(body_names) = found.body_names else {
         return refuse(22, end);
     };
-    check_names(message, &sections.body_names)?;
-    check_identifiers(message, &sections.body_names, &sections.sequences)?;
+    check_names(message, &body_names)?;
+    check_identifiers(message, &body_names, &sequences_of(&found.sections))?;
     Ok(View {
         length,
         request_id: i32_at(message, 4),
         response_to: i32_at(message, 8),
         flags: flags & edition.bits,
-        body,
-        sequences: sections.sequences,
-        elements: sections.elements,
+        elements: found.elements,
+        sections: found.sections,
     })
 }
 
@@ -305,46 +362,46 @@ fn has_checksum(flags: u32) -> bool {
     flags & 1 == 1
 }
 
-struct Sections {
-    body: Option<Range<usize>>,
-    body_names: Vec<Range<usize>>,
-    sequences: Vec<Sequence>,
+struct Found {
+    sections: Vec<Section>,
+    /// The names at the top of the body, where there is one.
+    body_names: Option<Vec<Range<usize>>>,
     elements: usize,
 }
 
 /// Checks 10 to 21 and 27, from left to right.
-fn read_sections(edition: &Edition, message: &[u8], end: usize) -> Result<Sections, Refused> {
+fn read_sections(edition: &Edition, message: &[u8], end: usize) -> Result<Found, Refused> {
     let mut walk = Walk {
         message,
         elements: 0,
     };
-    let mut body = None;
-    let mut body_names = Vec::new();
-    let mut sequences = Vec::new();
+    let mut body_names = None;
+    let mut sections = Vec::new();
     let mut at = 20;
     while at < end {
         match message[at] {
-            0 if body.is_some() => return refuse(11, at),
+            0 if body_names.is_some() => return refuse(11, at),
             0 => {
-                let after = walk.document(at + 1, end, 1, &mut body_names)?;
-                body = Some(at + 1..after);
+                let mut names = Vec::new();
+                let after = walk.document(at + 1, end, 1, &mut names)?;
+                sections.push(Section::Body(at + 1..after));
+                body_names = Some(names);
                 at = after;
             }
             1 if edition.sequences => {
-                if sequences.len() == MAX_SEQUENCES {
+                if sequences_of(&sections).len() == MAX_SEQUENCES {
                     return refuse(14, at);
                 }
                 let sequence = walk.sequence(at + 1, end)?;
                 at = sequence.documents.end;
-                sequences.push(sequence);
+                sections.push(Section::Sequence(sequence));
             }
             _ => return refuse(10, at),
         }
     }
-    Ok(Sections {
-        body,
+    Ok(Found {
+        sections,
         body_names,
-        sequences,
         elements: walk.elements,
     })
 }
@@ -587,7 +644,7 @@ fn check_names(message: &[u8], names: &[Range<usize>]) -> Result<(), Refused> {
 fn check_identifiers(
     message: &[u8],
     names: &[Range<usize>],
-    sequences: &[Sequence],
+    sequences: &[&Sequence],
 ) -> Result<(), Refused> {
     if sequences.is_empty() {
         return Ok(());
@@ -601,7 +658,7 @@ fn check_identifiers(
     Ok(())
 }
 
-// ----------------------------------------------- forward, write and append
+// ----------------------------------------- forward, write, append and move
 
 /// A view and the message that goes to the output.
 pub type Written = (View, Vec<u8>);
@@ -680,7 +737,7 @@ pub fn append(
     if !edition.sequences {
         return refuse(10, end);
     }
-    if old.sequences.len() == MAX_SEQUENCES {
+    if old.sequences().len() == MAX_SEQUENCES {
         return refuse(14, end);
     }
     if identifier.is_empty() || identifier.contains(&0) {
@@ -706,5 +763,37 @@ pub fn append(
         add_checksum(&mut message);
     }
     let view = read(edition, &message)?;
+    Ok((view, message))
+}
+
+/// The forwarded message with its body behind so many of its sequences.
+pub fn move_body(
+    edition: &Edition,
+    buffer: &[u8],
+    behind: u32,
+    room: usize,
+) -> Result<Written, Refused> {
+    let old = read(edition, buffer)?;
+    let sequences = old.sequences().len();
+    if i64::from(behind) > sequences as i64 {
+        return refuse(28, 0);
+    }
+    if room < old.length {
+        return refuse(25, 0);
+    }
+    let forwarded = forwarded(&old, buffer);
+    let mut parts: Vec<Range<usize>> = old.sections.iter().map(Section::whole).collect();
+    let body = parts.remove(old.behind());
+    parts.insert(behind as usize, body);
+
+    // The header and the flag word, each section's own bytes, the checksum.
+    let mut message = forwarded[..20].to_vec();
+    for part in parts {
+        message.extend(&forwarded[part]);
+    }
+    if has_checksum(old.flags) {
+        add_checksum(&mut message);
+    }
+    let view = read(edition, &message).expect("the same sections in another order");
     Ok((view, message))
 }

@@ -5,13 +5,13 @@ use native.Mathlib.Omega.{arith}
 use lib.ListN.{length}
 use borrow.Author.Needs.{needs}
 use Rattle.wire.specs.Outcome.{_>>=_}
-use Rattle.opmsg.specs.Sections.{maxSequences}
+use Rattle.opmsg.specs.Sections.{maxSections}
 use Rattle.opmsg.specs.View.{answer}
 use Rattle.opmsg.specs.Read.{read}
 use Rattle.opmsg.proofs.Answered.{answer-refused, answer-accepted}
 use Rattle.message.specs.Message.{viewed, output}
 use Rattle.message_append_checks.proofs.Appending.{append-unread}
-use Rattle.message_append_checks.proofs.Answers.{ready-allowed, ready-low, ready-inside, ready-length, ready-small}
+use Rattle.message_append_checks.proofs.Answers.{ready-allowed, ready-low, ready-inside, ready-length, ready-small, ready-entry}
 use Rattle.message_append.proofs.append.Statement.{statement}
 use Rattle.message_append.proofs.append.Tie as tie
 
@@ -37,11 +37,11 @@ appended-requires c κs =
     (ready-low k, ready-inside k, omega (arith, ready-length k, ready-allowed k .fits), omega (arith, ready-length k, ready-small k))
 
 grown-requires : tie.Need-grown-requires
-unfolding maxSequences
+unfolding maxSections
 grown-requires c κs =
     let p5 = c .before .before .before .before .before in
     let k = (rw (p5 .end .given .1) at (p5 .before .before .examine .ensures)) .0 in
-    (omega (arith, ready-small k), omega (arith, ready-length k, ready-small k), ready-allowed k .few)
+    (omega (arith, ready-small k), omega (arith, ready-length k, ready-small k), omega (arith, ready-entry k), k .behind)
 
 returns-2 : tie.Need-returns-2
 unfolding viewed output answer _>>=_

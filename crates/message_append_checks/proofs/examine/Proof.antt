@@ -6,46 +6,50 @@ use native.Mathlib.Omega.{arith}
 use lib.ListN.{length}
 use borrow.Author.Needs.{needs}
 use Rattle.opmsg.specs.Layout.{maxLength}
-use Rattle.opmsg.specs.Sections.{maxSequences}
+use Rattle.opmsg.specs.Sections.{maxSections}
 use Rattle.opmsg.specs.Inner.{judged}
 use Rattle.opmsg.proofs.Limits.{maxLength-small}
 use Rattle.opmsg_documents.specs.Inner.{toldRun}
 use Rattle.message_append_checks.specs.Inner.{Ready}
 use Rattle.message_append_checks.proofs.Appending.{allows}
-use Rattle.message_append_checks.proofs.Answers.{checksum-within, permits, before-refuse, documents-refuse, documents-ready, ready-allowed, ready-low, ready-inside, ready-filled, ready-body, ready-taken, ready-grown}
+use Rattle.message_append_checks.proofs.Answers.{checksum-within, permits, before-refuse, documents-refuse, documents-ready, ready-low, ready-inside, ready-filled, ready-entry, ready-taken, ready-grown}
 use Rattle.message_append_checks.proofs.examine.Statement.{statement}
 use Rattle.message_append_checks.proofs.examine.Tie as tie
 
 returns : tie.Need-returns
 returns c =
-    let p3 = c .before .before .before in
-    let p5 = p3 .before .before in
-    let p9 = p5 .before .before .before .before in
-    before-refuse _ _ _ (p9 .pre) _ (p5 .checksum-size .ensures) (p9 .args .identifier .now) (p9 .args .documents .now) (p9 .args .room) (sym (p3 .before-documents .ensures) ∙ ap judged (c .before .passed .given .1))
+    let d = c .before .before .before in
+    let n = d .before in
+    let m = n .before .before in
+    let a = m .before .before .before .before in
+    before-refuse _ _ _ (a .pre) _ (m .checksum-size .ensures) _ (n .sequence-count .ensures) (a .args .identifier .now) (a .args .documents .now) (a .args .room)
+    (sym (d .before-documents .ensures) ∙ ap judged (c .before .passed .given .1))
 
-limit : (c : tie.After-enum-told) → let a = c .before .before .before .before .before .before .before .before .args in a .v .length + (length (a .identifier .now) + 6 + length (a .documents .now)) ≤ maxLength
+limit : (c : tie.After-enum-told) → let a = c .before .before .before .before .before .before .before .before .before .args in a .v .length + (length (a .identifier .now) + 6 + length (a .documents .now)) ≤ maxLength
 limit c = allows _ _ _ _ _ _ (permits _ _ _ _ _ _ (sym (c .before .before .before-documents .ensures) ∙ ap judged (c .enum-told .given .1)) .0) .limit
 
 -- the checks are passed and the documents are counted: only names are left to check
 ready : (q : tie.After-number) →
     let d = q .before .before in
-    let m = d .before .before .before .before .before in
+    let n = d .before .before .before .before in
+    let m = n .before .before in
     let a = m .before .before .before .before in
-    Ready (a .args .e) (a .args .s .now) (a .args .identifier .now) (a .args .documents .now) (a .args .v) (a .args .v .length - m .checksum-size .result) (q .number .given .0 .0) (q .number .given .0 .1 .0) (a .args .room)
+    Ready (a .args .e) (a .args .s .now) (a .args .identifier .now) (a .args .documents .now) (a .args .v) (a .args .v .length - m .checksum-size .result) (n .sequence-count .result + 1) (q .number .given .0 .0) (q .number .given .0 .1 .0) (a .args .room)
 ready q =
     let d = q .before .before in
     let t = d .before in
     let k = t .before .before in
-    let m = k .before .before in
+    let n = k .before in
+    let m = n .before .before in
     let a = m .before .before .before .before in
-    documents-ready _ _ _ (a .pre) _ (m .checksum-size .ensures) (a .args .identifier .now) (a .args .documents .now) (a .args .room)
+    documents-ready _ _ _ (a .pre) _ (m .checksum-size .ensures) _ (n .sequence-count .ensures) (a .args .identifier .now) (a .args .documents .now) (a .args .room)
     (sym (k .before-documents .ensures) ∙ ap judged (t .enum-told .given .1)) (sym (d .documents .ensures _ (omega arith)) ∙ ap toldRun (q .number .given .1))
 
 repeated-requires : tie.Need-repeated-requires
-unfolding maxSequences
+unfolding maxSections
 repeated-requires c κs =
     let k = ready (c .before) in
-    (ready-low k, ready-inside k, omega (arith, ready-allowed k .few), ready-body k, ready-filled k)
+    (ready-low k, ready-inside k, omega (arith, ready-entry k), ready-filled k)
 
 returns-2 : tie.Need-returns-2
 returns-2 c = ready-taken (ready (c .before .before .before)) (c .before .repeated .result) (c .before .repeated .ensures) (c .if1 .taken)
@@ -57,13 +61,14 @@ returns-3 c =
 
 returns-4 : tie.Need-returns-4
 returns-4 c =
-    let p3 = c .before .before .before in
-    let p4 = p3 .before in
-    let p6 = p4 .before .before in
-    let p8 = p6 .before .before in
-    let p12 = p8 .before .before .before .before in
-    documents-refuse _ _ _ (p12 .pre) _ (p8 .checksum-size .ensures) (p12 .args .identifier .now) (p12 .args .documents .now) (p12 .args .room)
-    (sym (p6 .before-documents .ensures) ∙ ap judged (p4 .enum-told .given .1)) (sym (p3 .documents .ensures _ (omega arith)) ∙ ap toldRun (c .before .number2 .given .1))
+    let d = c .before .before .before in
+    let t = d .before in
+    let k = t .before .before in
+    let n = k .before in
+    let m = n .before .before in
+    let a = m .before .before .before .before in
+    documents-refuse _ _ _ (a .pre) _ (m .checksum-size .ensures) _ (n .sequence-count .ensures) (a .args .identifier .now) (a .args .documents .now) (a .args .room)
+    (sym (k .before-documents .ensures) ∙ ap judged (t .enum-told .given .1)) (sym (d .documents .ensures _ (omega arith)) ∙ ap toldRun (c .before .number2 .given .1))
 
 pub examine-spec : {M : Type 1} → statement M
 examine-spec =
@@ -73,6 +78,7 @@ examine-spec =
     (λ c. omega (arith, c .before .checksum-size .ensures, checksum-within _ _ _ (c .before .before .before .before .before .pre)))
     (λ c. search needs)
     (λ c κs. search needs)
+    (λ c κs. search needs)
     (λ c. search needs)
     returns
     (λ c. search needs)
@@ -80,6 +86,8 @@ examine-spec =
     (λ c. search needs)
     (λ c. omega (arith, limit c, maxLength-small))
     (λ c κs. omega (arith, limit c, maxLength-small))
+    (λ c. search needs)
+    (λ c. search needs)
     (λ c. search needs)
     repeated-requires
     (λ c. search needs)

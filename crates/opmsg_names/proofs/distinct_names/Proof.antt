@@ -5,7 +5,7 @@ use native.Mathlib.Omega.{arith}
 use lib.ListN.{length-take, length-drop}
 use borrow.Author.Needs.{needs}
 use Rattle.opmsg.specs.Names.{distinct, part}
-use Rattle.opmsg_names.proofs.Kept.{absent, repeated, different}
+use Rattle.opmsg_names.proofs.Kept.{without-sequences, absent, repeated, different}
 use Rattle.opmsg_names.proofs.distinct_names.Statement.{statement}
 use Rattle.opmsg_names.proofs.distinct_names.Tie as tie
 
@@ -34,7 +34,7 @@ returns-3 c =
     let x = b .before .before in
     let l = x .before in
     let a = l .before .before in
-    λ qs s. sym (rw (c .if2 .taken) at (different s (a .args .xs .now) (a .pre .2) (a .args .end) (l .if1 .left)
+    λ qs s. sym (rw (without-sequences s (a .args .xs .now) (c .if2 .taken)) at (different s (a .args .xs .now) (a .pre .2) (a .args .end) (l .if1 .left)
     (sym (rw (c .before .enum-told .given .1, x .elements .ensures) at (b .body-names .ensures .0)))))
 
 identifiers-differ-requires : tie.Need-identifiers-differ-requires

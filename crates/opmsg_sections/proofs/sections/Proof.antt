@@ -1,26 +1,46 @@
 -- `opmsg_sections::sections` meets its contract: each turn keeps of a section what the definition has of it.
 -- Assumes nothing.
-use Prim.Native.Nat.{_-_, _<_}
+use Prim.Native.Nat.{_-_, _^_, _<_}
 use native.Mathlib.Omega.{arith}
 use lib.ListN.{length}
 use borrow.Author.Needs.{needs}
-use Rattle.opmsg.specs.Sections.{maxSequences}
-use Rattle.opmsg_sections.proofs.Gather.{Passing, begins, gathered, refuses, adds-body, adds-sequence, has-room}
+use Rattle.opmsg.specs.Sections.{maxSequences, maxSections}
+use Rattle.opmsg_sections.proofs.Gather.{Passing, begins, gathered, refuses, body-room, adds-body, sequence-room, adds-sequence, fits}
 use Rattle.opmsg_sections.proofs.sections.Statement.{statement}
 use Rattle.opmsg_sections.proofs.sections.Tie as tie
 
 abbrev Inv-loop : tie.InvT-loop
-Inv-loop e xs i₀ body₀ body-length₀ count₀ sequences₀ elements₀ i body body-length count sequences elements =
-    Passing e xs i body body-length sequences count elements
+Inv-loop e xs i₀ body₀ body-length₀ used₀ sequences₀ entries₀ elements₀ i body body-length used sequences entries elements =
+    Passing e xs i body body-length entries used sequences elements
 
 abbrev μ-loop : tie.MeasureT-loop
-μ-loop e xs i₀ body₀ body-length₀ count₀ sequences₀ elements₀ i body body-length count sequences elements = length xs - i
+μ-loop e xs i₀ body₀ body-length₀ used₀ sequences₀ entries₀ elements₀ i body body-length used sequences entries elements = length xs - i
 
 loop-holds : tie.Need-loop-holds Inv-loop μ-loop
-unfolding maxSequences
 loop-holds c =
     let p2 = c .before .before in
-    rw (c .no-sequence .ensures) (begins (p2 .args .e) (p2 .args .xs .now))
+    rw (c .no-entries .ensures) (begins (p2 .args .e) (p2 .args .xs .now))
+
+-- there is room for a body's entry, and for a sequence's
+room : (c : tie.After-known-told Inv-loop μ-loop) → c .before .before .before .before .before .before .loop .used < 17
+unfolding maxSections
+room c =
+    let p3 = c .before .before .before in
+    let p5 = p3 .before .before in
+    body-room (p5 .before .loop .inv) (p5 .loop-test .taken) _ (p3 .section .ensures .0) (p3 .section .ensures .1) (c .before .size .given .1)
+
+room-2 : (c : tie.After-known-told2 Inv-loop μ-loop) → c .before .before .before .before .before .before .loop .used < 17
+unfolding maxSections
+room-2 c =
+    let p3 = c .before .before .before in
+    let p5 = p3 .before .before in
+    sequence-room (p5 .before .loop .inv) (p5 .loop-test .taken) _ (p3 .section .ensures .0) (p3 .section .ensures .1) (c .before .identifier .given .1)
+
+small : (c : tie.After-known-told Inv-loop μ-loop) → let p6 = c .before .before .before .before .before .before in (p6 .loop .i < 2 ^ 30) × (length (p6 .before .before .before .args .xs .now) < 2 ^ 30)
+small c =
+    let p6 = c .before .before .before .before .before .before in
+    let pre = p6 .before .before .before .pre in
+    (omega (arith, c .before .before .before .before .before .loop-test .taken, pre), pre)
 
 loop-again : tie.Need-loop-again Inv-loop μ-loop
 loop-again c =
@@ -28,17 +48,11 @@ loop-again c =
     let p5 = p3 .before .before in
     adds-body (p5 .before .loop .inv) (p5 .loop-test .taken) _ (p3 .section .ensures .0) (p3 .section .ensures .1) (c .before .size .given .1)
 
-room : (c : tie.After-known-told2 Inv-loop μ-loop) → c .before .before .before .before .before .before .loop .count < 16
-room c =
-    let p3 = c .before .before .before in
-    let p5 = p3 .before .before in
-    has-room (p5 .before .loop .inv) (p5 .loop-test .taken) _ (p3 .section .ensures .0) (p3 .section .ensures .1) (c .before .entry .given .1)
-
 loop-again-2 : tie.Need-loop-again-2 Inv-loop μ-loop
 loop-again-2 c =
     let p3 = c .before .before .before in
     let p5 = p3 .before .before in
-    adds-sequence (p5 .before .loop .inv) (p5 .loop-test .taken) _ (p3 .section .ensures .0) (p3 .section .ensures .1) (c .before .entry .given .1)
+    adds-sequence (p5 .before .loop .inv) (p5 .loop-test .taken) _ (p3 .section .ensures .0) (p3 .section .ensures .1) (c .before .identifier .given .1)
 
 returns : tie.Need-returns Inv-loop μ-loop
 returns c =
@@ -55,7 +69,7 @@ returns-2 c =
       read = gathered inv (c .loop-test .left);
       shows = inv .shows;
       elements-is = inv .elements-is;
-      few = inv .few;
+      few = fits inv;
       near = omega (arith, inv .near, inv .within);
       filled = inv .filled;
     }
@@ -75,16 +89,22 @@ sections-spec =
     (λ c κs. omega (arith, c .section-arg .given .2, c .before .before .before .before .before .pre))
     (λ c. search needs)
     (λ c. omega arith)
+    (λ c. omega (arith, small c))
+    (λ c. let s = c .before .before .before in omega (arith, rw (c .before .size .given .1) at (s .section .ensures .1), s .before .section-arg .given .2, small c))
+    (λ c. omega (arith, room c))
+    room
+    (λ c. omega (arith, room c))
     (λ c. let s = c .before .before .before in omega (arith, rw (c .before .size .given .1) at (s .section .ensures .1), s .before .section-arg .given .2))
     (λ c. let s = c .before .before .before in omega (arith, rw (c .before .size .given .1) at (s .section .ensures .1), s .before .section-arg .given .2))
     (λ c. omega arith)
     loop-again
     (λ c. search needs)
-    (λ c. omega (arith, room c))
-    room
-    (λ c. omega (arith, room c))
-    (λ c. let s = c .before .before .before in omega (arith, rw (c .before .entry .given .1) at (s .section .ensures .1), s .before .section-arg .given .2))
-    (λ c. omega (arith, rw (c .before .entry .given .1) at (c .before .before .before .section .ensures .1)))
+    (λ c. omega (arith, room-2 c))
+    room-2
+    (λ c. omega (arith, room-2 c))
+    (λ c. unfold maxSequences in omega (arith, c .before .before .before .before .before .before .loop .inv .few))
+    (λ c. let s = c .before .before .before in omega (arith, rw (c .before .identifier .given .1) at (s .section .ensures .1), s .before .section-arg .given .2))
+    (λ c. omega (arith, rw (c .before .identifier .given .1) at (c .before .before .before .section .ensures .1)))
     loop-again-2
     (λ c. search needs)
     (λ c κs. search needs)

@@ -16,7 +16,7 @@ returns c =
     let p4 = p3 .before in
     let p6 = p4 .before .before in
     let e : 1 + p6 .args .size - (p6 .args .n + 6) ≡ p6 .args .size - (p6 .args .n + 5) = omega arith in (
-      λ p k. rw (sequenceRun, k, ← e, ← p3 .documents .ensures (p6 .args .size) (omega (arith, p4 .documents-arg .given .2)), c .before .documents2 .given .1),
+      λ p k. rw (sequenceRun, k, ← e, ← p3 .documents .ensures (p6 .args .size) (omega (arith, p4 .documents-arg .given .2)), c .before .number .given .1),
       omega (arith, p6 .pre),
     )
 
@@ -27,7 +27,7 @@ returns-2 c =
     let p4 = p3 .before in
     let p6 = p4 .before .before in
     let e : 1 + p6 .args .size - (p6 .args .n + 6) ≡ p6 .args .size - (p6 .args .n + 5) = omega arith in
-    (λ p k. rw (sequenceRun, k, ← e, ← p3 .documents .ensures (p6 .args .size) (omega (arith, p4 .documents-arg .given .2)), c .before .number .given .1), tt)
+    (λ p k. rw (sequenceRun, k, ← e, ← p3 .documents .ensures (p6 .args .size) (omega (arith, p4 .documents-arg .given .2)), c .before .number2 .given .1), tt)
 
 pub sequence-documents-spec : {M : Type 1} → statement M
 sequence-documents-spec =

@@ -14,19 +14,18 @@ use Rattle.opmsg_view.proofs.view.Tie as tie
 returns : tie.Need-returns
 unfolding wordAt
 returns c =
-    let p4 = c .before .before .before .before in
-    let p5 = p4 .before in
-    let p7 = p5 .before .before in
-    let p8 = p7 .before in
-    let p9 = p8 .before in
-    let start = p9 .before .before in
-    λ p shows counted.
+    let flags = c .before in
+    let response = flags .before .before .before in
+    let request = response .before in
+    let first = request .before in
+    let start = first .before .before in
+    λ p entries counted.
     view-is (start .args .e) (start .args .s .now) p _
-    (p9 .word .ensures)
-    (toZ-ofZ {w = w32} (record { sfits = p8 .id-at .ok }) ∙ p8 .id-at .ensures)
-    (toZ-ofZ {w = w32} (record { sfits = p7 .id-at2 .ok }) ∙ p7 .id-at2 .ensures)
-    (p4 .kept .ensures ∙ ap (kept (start .args .e .bits)) (p5 .word2 .ensures ∙ ap word (rest-part 16 (start .args .s .now))))
-    shows
+    (first .word .ensures)
+    (toZ-ofZ {w = w32} (record { sfits = request .id-at .ok }) ∙ request .id-at .ensures)
+    (toZ-ofZ {w = w32} (record { sfits = response .id-at2 .ok }) ∙ response .id-at2 .ensures)
+    (flags .kept .ensures ∙ ap (kept (start .args .e .bits)) (flags .before .word2 .ensures ∙ ap word (rest-part 16 (start .args .s .now))))
+    entries
     counted
 
 pub view-spec : {M : Type 1} → statement M
@@ -41,7 +40,4 @@ view-spec =
     (λ c. search needs)
     (λ c κs. search needs)
     (λ c κs. search needs)
-    (λ c. search needs)
-    (λ c. search needs)
-    (λ c. search needs)
     returns)

@@ -22,15 +22,15 @@ returns c =
 returns-2 : tie.Need-returns-2
 unfolding stepOf
 returns-2 c =
-    let p2 = c .before .before in
-    let p4 = p2 .before .before in
-    let start = p4 .before .before .before in
-    let v = p4 .read .result .view in
-    let is = rw (p4 .before .house .ensures) at (p4 .read .ensures) in
-    let a = answer-accepted (read house (start .args .s .now)) (p4 .read .result) is (p2 .enum-told .given .1) in
+    let p3 = c .before .before .before in
+    let p5 = p3 .before .before in
+    let start = p5 .before .before .before in
+    let v = p5 .read .result .view in
+    let is = rw (p5 .before .house .ensures) at (p5 .read .ensures) in
+    let a = answer-accepted (read house (start .args .s .now)) (p5 .read .result) is (p3 .enum-told .given .1) in
     let first = toZ-ofZ {w = w32} {z = v .«request_id»} (record { sfits = c .struct-told .given .1 .0 .1 }) in
     let second = toZ-ofZ {w = w32} {z = v .«response_to»} (record { sfits = c .struct-told .given .1 .1 .0 .1 }) in
-    (rw (a, first, second), within-bytes house (start .args .s .now) v a)
+    (rw (a, first, second, ← c .before .sequence-count .ensures), within-bytes house (start .args .s .now) v a)
 
 pub judge-spec : {M : Type 1} → statement M
 judge-spec =
@@ -41,4 +41,5 @@ judge-spec =
     (λ c. search needs)
     returns
     (λ c. search needs)
+    (λ c κs. search needs)
     returns-2)

@@ -15,7 +15,7 @@ met-requires c κs =
 returns : tie.Need-returns
 returns c =
     let p4 = c .before .before .before .before in
-    λ qs s. rw (c .before .elements .ensures) at (c .met .ensures) ∙ sym (taken-shown s (p4 .args .xs .now) (p4 .pre .2) (p4 .args .text .now))
+    λ qs sequences s. rw (c .before .elements .ensures) at (c .met .ensures) ∙ sym (taken-shown s (p4 .args .xs .now) (p4 .pre .2) (p4 .args .text .now))
 
 pub taken-spec : {M : Type 1} → statement M
 taken-spec = tie.close (tie.spec (λ c κs. search needs) met-requires returns)
