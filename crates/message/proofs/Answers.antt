@@ -106,7 +106,8 @@ module _ {e : Edition} {s : List ℕ} {v : View} (r : Reads e s v) where
   unfolding parts
   other-parts other =
       let o = walk-other e other (sectionsEnd s) 20 (sectionBytes s) nothing (r .sections) (r .listed) in
-      let same : kindsKnown other (sectionsOf v) ≡ kindsKnown other (o .sections) = ap (kindsKnown other) section-list ∙ kinds-nones other (maxSections - length (r .sections .sections)) (r .sections .sections) ∙ ap (kindsKnown other) (o .behind) in
+      let nones = kinds-nones other (maxSections - length (r .sections .sections)) (r .sections .sections) in
+      let same : kindsKnown other (sectionsOf v) ≡ kindsKnown other (o .sections) = ap (kindsKnown other) section-list ∙ nones ∙ ap (kindsKnown other) (o .behind) in
       rw same (o .answer)
 
   other-view : (other : Edition) → viewOf other s (r .sections) ≡ withFlags v (kept (other .bits) (flagWord s))

@@ -246,7 +246,9 @@ module _ (e : Edition) (s : List ℕ) (v : View) (h : read e s ≡ ok v) (b : By
   not-first : (n : ℕ) (zs : List ℕ) (one : Step Parts) (rs : List Section) → BodyFirst v → one .state .sections ≡ sequenceIn 20 zs n ∷ [] → reads h .sections .sections ≡ one .state .sections ++ rs → ⊥
   unfolding sequencesBefore
   not-first n zs one rs z added i =
-      let k : sequencesBefore (sectionsOf v) ≡ suc _ = ap sequencesBefore (shown-sections ∙ ap (λ (l : List Section). l ++ replicate (maxSections - length (reads h .sections .sections)) None) (i ∙ ap (λ (l : List Section). l ++ rs) added)) in
+      let unused = replicate (maxSections - length (reads h .sections .sections)) None in
+      let listed = shown-sections ∙ ap (λ (l : List Section). l ++ unused) (i ∙ ap (λ (l : List Section). l ++ rs) added) in
+      let k : sequencesBefore (sectionsOf v) ≡ suc _ = ap sequencesBefore listed in
       omega arith
 
   first-is : (zs : List ℕ) (one : Step Parts) (rs : List Section) → zs ≡ sectionBytes s → BodyFirst v → sectionAt e 20 zs nothing ≡ ok one → reads h .sections .sections ≡ one .state .sections ++ rs

@@ -33,8 +33,10 @@ ready : (q : tie.After-number) →
     let d = q .before .before in
     let n = d .before .before .before .before in
     let m = n .before .before in
-    let a = m .before .before .before .before in
-    Ready (a .args .e) (a .args .s .now) (a .args .identifier .now) (a .args .documents .now) (a .args .v) (a .args .v .length - m .checksum-size .result) (n .sequence-count .result + 1) (q .number .given .0 .0) (q .number .given .0 .1 .0) (a .args .room)
+    let a = m .before .before .before .before .args in
+    let end = a .v .length - m .checksum-size .result in
+    let run = q .number .given .0 in
+    Ready (a .e) (a .s .now) (a .identifier .now) (a .documents .now) (a .v) end (n .sequence-count .result + 1) (run .0) (run .1 .0) (a .room)
 ready q =
     let d = q .before .before in
     let t = d .before in

@@ -35,10 +35,12 @@ turn c =
     let t = x .before .before in
     let l = t .before in
     let a = l .before .before .before .args in
-    let inv = l .loop .inv in
-    let fits : 20 + length (laid (a .s .now) (a .t3) (l .loop .i + 1)) ≤ length (a .out .now) =
-    omega (arith, inv .2, laid-within (a .s .now) (a .t3) (l .loop .i + 1) (a .n) (omega (arith, t .loop-test .taken))) in
-    (rw (w .put .ensures) (lays-next (a .s .now) (a .t3) (a .out .now) (omega (arith, inv .2)) (l .loop .i) (l .loop .at) (l .loop .out) (inv .3) (omega (arith, t .loop-test .taken, inv .0)) fits (x .section-in .result .now) (x .section-in .ensures)), fits)
+    let k = l .loop in
+    let inv = k .inv in
+    let fits : 20 + length (laid (a .s .now) (a .t3) (k .i + 1)) ≤ length (a .out .now) =
+    omega (arith, inv .2, laid-within (a .s .now) (a .t3) (k .i + 1) (a .n) (omega (arith, t .loop-test .taken))) in
+    let next = lays-next (a .s .now) (a .t3) (a .out .now) (omega (arith, inv .2)) (k .i) (k .at) (k .out) (inv .3) (omega (arith, t .loop-test .taken, inv .0)) fits in
+    (rw (w .put .ensures) (next (x .section-in .result .now) (x .section-in .ensures)), fits)
 
 loop-again : tie.Need-loop-again Inv-loop μ-loop
 loop-again c =

@@ -1,20 +1,21 @@
 -- `opmsg_read::read` meets its contract: the checks of the header, of the flag word, of the sections and of their names, one behind the other, and the view.
 -- Assumes nothing.
-use Prim.Native.Nat.{_+_, _≤_}
+use Prim.Native.Nat.{ℕ, _+_, _≤_}
+use mathlib.Core.List.{List}
 use mathlib.Core.Path.{_≡_, sym, ap, _∙_}
+use lib.ListN.{length}
 use native.Mathlib.Omega.{arith}
 use borrow.Author.Needs.{needs}
 use Rattle.wire.specs.Bytes.{wordAt}
 use Rattle.wire.proofs.Outcome.{go-on, halt}
 use Rattle.wire.proofs.Parts.{rest-part}
-use Rattle.opmsg.specs.Layout.{checksumSize}
+use Rattle.opmsg.specs.Layout.{maxLength, messageLength, flagWord, checksumSize}
 use Rattle.opmsg.specs.Sections.{maxSections}
 use Rattle.opmsg.specs.View.{answer}
 use Rattle.opmsg.specs.Read.{content, read}
 use Rattle.opmsg.specs.Inner.{judged}
 use Rattle.opmsg.proofs.Limits.{maxLength-small}
 use Rattle.opmsg.proofs.Accepted.{headed, flags-passed}
-use Rattle.opmsg_read.specs.Inner.{FlagsAccepted}
 use Rattle.opmsg_read.proofs.Assembled.{refused-sections, refused-names, shown}
 use Rattle.opmsg_read.proofs.read.Statement.{statement}
 use Rattle.opmsg_read.proofs.read.Tie as tie
@@ -32,6 +33,12 @@ returns-2 c =
     let f = v .before .before in
     let h = f .before in
     rw (c .refusal2 .ensures) (ap answer (sym (go-on _ (sym (h .before .before .header .ensures) ∙ ap judged (h .enum-told .given .1)) ∙ halt _ (sym (f .flagged .ensures) ∙ ap judged (v .flags .given .1)))))
+
+-- what is known of a message s whose header and flag word were accepted
+record FlagsAccepted (s : List ℕ) : Type 0 where
+  limit : messageLength s ≤ maxLength
+  whole : messageLength s ≤ length s
+  ended : 20 + checksumSize (flagWord s) ≤ messageLength s
 
 -- header and flag word are accepted
 module _ (t : tie.After-enum-told2) where

@@ -38,13 +38,14 @@ near c =
 loop-again : tie.Need-loop-again Inv-loop μ-loop
 loop-again c =
     let t = c .before .before in
-    let l = t .before in
-    let start = l .before .before .before in (
-      l .loop .inv .0,
+    let start = t .before .before .before .before in
+    let a = start .args in
+    let k = t .before .loop in (
+      k .inv .0,
       omega (arith, t .loop-test .taken),
       ⊎-elim
-          (λ w. rw (w .3, w .4, w .2 .ensures) (orders-sequence (start .args .v) (start .args .behind) (l .loop .i) (l .loop .count) (l .loop .list) (l .loop .inv .2) (start .pre .1) (omega (arith, t .loop-test .taken, l .loop .inv .0)) (w .1 .given .1)))
-          (λ w. rw (w .1, w .2) (orders-other (start .args .v) (start .args .behind) (l .loop .i) (l .loop .count) (l .loop .list) (l .loop .inv .2) (start .pre .1) (omega (arith, t .loop-test .taken, l .loop .inv .0)) (w .0 .keys2)))
+          (λ w. rw (w .3, w .4, w .2 .ensures) (orders-sequence (a .v) (a .behind) (k .i) (k .count) (k .list) (k .inv .2) (start .pre .1) (omega (arith, t .loop-test .taken, k .inv .0)) (w .1 .given .1)))
+          (λ w. rw (w .1, w .2) (orders-other (a .v) (a .behind) (k .i) (k .count) (k .list) (k .inv .2) (start .pre .1) (omega (arith, t .loop-test .taken, k .inv .0)) (w .0 .keys2)))
           (c .match .came),
     )
 
