@@ -42,7 +42,12 @@
  * A message has one body, at any place among its sections, and at most 16
  * sequences. The names of the body's own elements, its top-level names, are all
  * different. An identifier is not empty, and differs from those names and from
- * the other identifiers.
+ * the other identifiers. One with dots also leads to no name in the body: it is
+ * parted at every dot, and followed from the body one name at a time into
+ * documents (type 03). So no sequence is called `run.points` beside a body that
+ * has `points`, of any type, inside `run`. Of equal names inside a document all
+ * are followed. An empty name, beside a dot, is met by an empty name alone, and
+ * a name with a dot of its own by none; arrays and scopes are not entered.
  *
  * BSON 1.1 is checked for structure: types, lengths and zero bytes, at all
  * levels. A section's document stands at level 1; a document, array or scope
@@ -236,9 +241,10 @@ static inline const struct relay_entry *relay_sequence(const struct relay_view *
  * relay_words(). Reading makes its checks in the order 1 to 9, with the second
  * case of 7 after 8; then, from left to right through the sections, 10, 11, 14,
  * 12, 13, 20, 15, 16, 21, 17, 18, 19 of each thing as it is reached; then 22,
- * 23, 24. A text's 27 comes directly after the checks of its own length and
- * zero byte: an identifier's after 13, a name's after 18, and in a value a
- * text's after its own 19 and before what follows it there.
+ * 23, and 24 of the first identifier that clashes in any way. A text's 27 comes
+ * directly after the checks of its own length and zero byte: an identifier's
+ * after 13, a name's after 18, and in a value a text's after its own 19 and
+ * before what follows it there.
  */
 enum relay_refusal {
     RELAY_ACCEPTED = 0,
@@ -346,7 +352,8 @@ static inline const char *relay_words(enum relay_refusal number)
     case RELAY_NAME_TWICE:
         return "body has a top-level name that equals an earlier one";
     case RELAY_IDENTIFIER_CLASH:
-        return "sequence's identifier is a top-level name of the body or an earlier identifier";
+        return "sequence's identifier is a top-level name of the body, an earlier identifier, "
+               "or a dotted path to a name in the body";
     case RELAY_OUTPUT_SHORT:
         return "output is too short for the message, or view for its 107 numbers";
     case RELAY_TEXT_NOT_UTF8:
@@ -422,8 +429,8 @@ uint64_t relay_write(uint32_t bits, uint8_t sequences,
  * E + 5 if the identifier is empty or holds a zero; 2 at 0 if the new length is
  * over 49,152; 25 at 0 if the output is shorter than the new length; those of
  * relay_read on the new message, so that an identifier that is not UTF-8 is 27
- * from E + 5 on, before the documents are looked at; 25 at 0 if the view is
- * shorter than 107 numbers.
+ * from E + 5 on, before the documents are looked at, and one that clashes is 24
+ * at E + 5, after them; 25 at 0 if the view is shorter than 107 numbers.
  */
 uint64_t relay_append(uint32_t bits, uint8_t sequences,
                       const uint8_t *message, size_t message_len,

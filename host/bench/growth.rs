@@ -9,12 +9,17 @@
 //! names. Each name stands before a null. `library` is the C function, with a
 //! view that is lent again and again; `set` and `order` are `bench/plain.rs`
 //! with a hash set and with the names sorted. Their samples are taken in turn.
+//!
+//! The last table is of identifiers with dots, which are followed into the
+//! body: the time of a read, and that by the number of the body's documents.
+//! `plain` is `bench/plain.rs` as it is.
 
 #[path = "../tests/common/mod.rs"]
 mod common;
 mod plain;
 mod timing;
 
+use common::dotted;
 use common::names::{message_of, Family};
 use relay::{ffi, Edition, VIEW_NUMBERS};
 use std::hint::black_box;
@@ -57,6 +62,7 @@ fn main() {
     let all = Family::ALL.map(measure);
     print_growth(&all);
     print_beside_usual(&all);
+    print_followed();
 }
 
 /// Measures a family; the last row has the most names that fit.
@@ -156,4 +162,63 @@ fn print_beside_usual(all: &[Growth]) {
             ratios[0], ratios[1], ratios[2]
         );
     }
+}
+
+/// What identifiers with dots cost, by the documents that they are followed
+/// into; all of them in vain.
+fn print_followed() {
+    println!();
+    println!("Identifiers with dots, nanoseconds a read:");
+    println!(
+        "{:<28}{:>9}{:>7}  {:>10}{:>10}{:>12}{:>15}",
+        "identifiers", "documents", "bytes", "library", "plain", "a document", "library/plain"
+    );
+    let counts = dotted::LENGTHS.map(dotted::fitting_points);
+    for (words, dot) in [("16 with dots", '.'), ("16 without", '-')] {
+        for count in counts {
+            let body = dotted::points(count);
+            let message = dotted::with_identifiers(body, &dotted::in_vain(dot));
+            measure_followed(words, count, &message);
+        }
+    }
+    for count in [125, 250, 500, 1_000, 2_000] {
+        let identifiers = [dotted::with_long_name(20_000)];
+        let message = dotted::with_identifiers(dotted::many_documents(count), &identifiers);
+        measure_followed("last name of 20,000 bytes", count, &message);
+    }
+    for levels in [6, 8, 10, 12, 13] {
+        // The last name is looked for among the innermost.
+        let identifiers: Vec<Vec<u8>> = (b'a'..=b'p')
+            .map(|letter| [b".".repeat(levels - 2), vec![letter]].concat())
+            .collect();
+        let message = dotted::with_identifiers(dotted::unnamed_tree(levels), &identifiers);
+        measure_followed("16 of dots and a letter", (1 << (levels - 1)) - 1, &message);
+    }
+    for dots in [1_000, 5_000, 20_000] {
+        let identifiers = [b".".repeat(dots)];
+        let message = dotted::with_identifiers(dotted::unnamed_tree(13), &identifiers);
+        measure_followed(&format!("{dots} dots"), 4_095, &message);
+    }
+}
+
+fn measure_followed(identifiers: &str, documents: usize, message: &[u8]) {
+    let mut view = [0; VIEW_NUMBERS];
+    let mut library = || {
+        let result = ffi::read(HOUSE.bits, 1, black_box(message), &mut view);
+        assert_eq!(result, 0);
+        black_box(&mut view);
+    };
+    let mut plain = || {
+        let view = plain::read(PLAIN_HOUSE, black_box(message));
+        assert!(black_box(view).is_ok());
+    };
+    let slow = time_of(&mut library, 1) > SLOW;
+    let samples = [if slow { FEW_SAMPLES } else { SAMPLES }, SAMPLES];
+    let [library, plain] = medians_over(samples, [&mut library, &mut plain]);
+    let bytes = message.len();
+    let (each, ratio) = (library / documents as f64, library / plain);
+    println!(
+        "{identifiers:<28}{documents:>9}{bytes:>7}  {library:>10.0}{plain:>10.0}{each:>12.1}\
+         {ratio:>15.2}"
+    );
 }

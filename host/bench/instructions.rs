@@ -12,16 +12,20 @@
 //!   the house edition clears;
 //! - `move` moves the body behind all sequences;
 //! - `bare` reads the message without its checksum;
+//! - `undotted` reads the message with other bytes for the dots in its
+//!   identifiers, so that none is followed into the body;
 //! - `copy` copies the message, and looks at nothing in it.
 //!
 //! Without arguments it lists the messages with their lengths, and says which
-//! have a checksum.
+//! have a checksum and which have identifiers with dots, those with the lengths
+//! of their bodies.
 
 #[path = "../tests/common/mod.rs"]
 mod common;
 #[allow(dead_code)]
 mod mix;
 
+use common::dotted;
 use common::message::{get_u32, with_flags};
 use common::names::{message_of, Family};
 use relay::{ffi, Edition, MAX_LENGTH, VIEW_NUMBERS};
@@ -42,7 +46,9 @@ fn main() -> ExitCode {
         _ => None,
     };
     if done.is_none() {
-        eprintln!("instructions <read, forward, cleared, move, bare or copy> <message> <calls>");
+        eprintln!(
+            "instructions <read, forward, cleared, move, bare, undotted or copy> <message> <calls>"
+        );
         return ExitCode::FAILURE;
     }
     ExitCode::SUCCESS
@@ -55,8 +61,9 @@ struct Message {
     sequences: u32,
 }
 
-/// The messages of the benchmark, the smaller insert with a checksum, and three
-/// with usual names.
+/// The messages of the benchmark, the smaller insert with a checksum, three
+/// with usual names, and those with 16 identifiers that are followed in vain
+/// through bodies of all lengths.
 fn messages() -> Vec<Message> {
     let mut messages: Vec<Message> = mix::mix()
         .into_iter()
@@ -79,18 +86,44 @@ fn messages() -> Vec<Message> {
         bytes: message_of(&Family::Usual.names(count)),
         sequences: 0,
     }));
+    messages.extend(dotted::LENGTHS.map(|length| {
+        let body = dotted::points(dotted::fitting_points(length));
+        let identifiers = dotted::in_vain('.');
+        Message {
+            name: format!("dotted-{}", length / 1_024),
+            bytes: dotted::with_identifiers(body, &identifiers),
+            sequences: identifiers.len() as u32,
+        }
+    }));
     messages
 }
 
 fn list() {
     for Message { name, bytes, .. } in messages() {
-        let sealed = get_u32(&bytes, 16) & 1 == 1;
-        println!(
-            "{name} {} {}",
-            bytes.len(),
-            if sealed { "sealed" } else { "-" }
-        );
+        let mark = if name.starts_with("dotted") {
+            let view = relay::read(&HOUSE, &bytes).expect("accepted");
+            format!("dotted {}", view.body().len())
+        } else if get_u32(&bytes, 16) & 1 == 1 {
+            "sealed".to_string()
+        } else {
+            "-".to_string()
+        };
+        println!("{name} {} {mark}", bytes.len());
     }
+}
+
+/// The message with a hyphen for each dot in its identifiers.
+fn undotted(message: &[u8]) -> Vec<u8> {
+    let mut bytes = message.to_vec();
+    let view = relay::read(&HOUSE, message).expect("accepted");
+    for sequence in view.sequences() {
+        for byte in &mut bytes[sequence.identifier] {
+            if *byte == b'.' {
+                *byte = b'-';
+            }
+        }
+    }
+    bytes
 }
 
 /// What is done with a message.
@@ -112,6 +145,7 @@ fn run(call: &str, name: &str, calls: &str) -> Option<()> {
     let (deed, bytes) = match call {
         "read" => (Deed::Read, bytes),
         "bare" => (Deed::Read, with_flags(&bytes, 0)),
+        "undotted" => (Deed::Read, undotted(&bytes)),
         "forward" => (Deed::Forward, bytes),
         "cleared" => (Deed::Forward, with_flags(&bytes, 1 | 1 << 17)),
         "move" => (Deed::Move, bytes),

@@ -11,6 +11,11 @@
 # more for the message with its checksum than without. `more` is what the move
 # takes beyond that, in plain copies and in the library's `own`, which is what
 # forward takes more than read.
+#
+# The third table is of messages with 16 identifiers that are followed in vain
+# through all of the body. `undotted` is a read of the same message without the
+# dots, so `followed` is what following takes. By the bytes of the body it should
+# stay level.
 set -eu
 cd "$(dirname "$0")/.."
 cargo build --quiet --release --example instructions
@@ -35,17 +40,22 @@ one() {
 }
 
 sealed=$(mktemp)
-trap 'rm -f "$sealed"' EXIT
+dotted=$(mktemp)
+trap 'rm -f "$sealed" "$dotted"' EXIT
 printf '%-14s%7s%10s%10s%10s%10s%8s\n' message bytes read forward cleared move copy
-"$program" | while read -r name bytes checksum; do
+"$program" | while read -r name bytes mark body; do
     read=$(one read "$name")
+    if [ "$mark" = dotted ]; then
+        echo "$name $bytes $body $read $(one undotted "$name")" >> "$dotted"
+        continue
+    fi
     forward=$(one forward "$name")
     cleared=$(one cleared "$name")
     move=$(one move "$name")
     copy=$(one copy "$name")
     printf '%-14s%7s%10s%10s%10s%10s%8s\n' \
         "$name" "$bytes" "$read" "$forward" "$cleared" "$move" "$copy"
-    if [ "$checksum" = sealed ]; then
+    if [ "$mark" = sealed ]; then
         anew=$((forward + read - $(one bare "$name")))
         echo "$name $bytes $anew $move $copy $((forward - read))" >> "$sealed"
     fi
@@ -62,3 +72,15 @@ awk '
             $1, $2, $3, $4, more, $5, $6, more / $5, more / $6
     }
 ' "$sealed"
+echo
+awk '
+    BEGIN {
+        printf "%-14s%7s%7s%10s%10s%10s%15s\n",
+            "message", "bytes", "body", "read", "undotted", "followed", "followed/body"
+    }
+    {
+        followed = $4 - $5
+        printf "%-14s%7d%7d%10d%10d%10d%15.1f\n",
+            $1, $2, $3, $4, $5, followed, followed / $3
+    }
+' "$dotted"

@@ -30,6 +30,16 @@ pub struct View {
     pub sections: [Section; MAX_SECTIONS],
 }
 
+impl View {
+    /// Where the body's document starts.
+    fn body_start(&self) -> usize {
+        match self.sections[self.body] {
+            Section::Body(part) => part.start,
+            _ => unreachable!("the body's own entry"),
+        }
+    }
+}
+
 #[derive(Clone, Copy, Debug, Default, PartialEq, Eq)]
 pub enum Section {
     #[default]
@@ -483,12 +493,70 @@ impl<'a> Reader<'a> {
             };
             let start = identifier.start;
             let text = &self.bytes[start..identifier.end];
-            if self.has_name(self.names.len(), text) {
+            if self.is_taken(view.body_start(), text) {
                 return Err((24, start));
             }
             self.names.push(Name { text, start });
         }
         Ok(())
+    }
+
+    /// Whether an identifier is one of the names, or leads to a name from the
+    /// body on. Most have no dot, and are not taken apart.
+    fn is_taken(&self, body: usize, identifier: &[u8]) -> bool {
+        if self.has_name(self.names.len(), identifier) {
+            return true;
+        }
+        if !identifier.contains(&b'.') {
+            return false;
+        }
+        let path: Vec<&[u8]> = identifier.split(|&byte| byte == b'.').collect();
+        self.has_path(body, &path)
+    }
+
+    /// Whether a path of names leads to an element, from the document that
+    /// starts here and was read.
+    fn has_path(&self, start: usize, path: &[&[u8]]) -> bool {
+        let Some((name, rest)) = path.split_first() else {
+            return false;
+        };
+        let last = start + u32_at(self.bytes, start) as usize - 1;
+        let mut at = start + 4;
+        while at < last {
+            let kind = self.bytes[at];
+            let zero = self.zero_after(at + 1);
+            let value = zero + 1;
+            if self.bytes[at + 1..zero] == **name
+                && (rest.is_empty() || kind == 0x03 && self.has_path(value, rest))
+            {
+                return true;
+            }
+            at = self.value_end(kind, value);
+        }
+        false
+    }
+
+    /// The end of a value that was read, by the lengths that it states.
+    fn value_end(&self, kind: u8, at: usize) -> usize {
+        let stated = || u32_at(self.bytes, at) as usize;
+        match kind {
+            0x01 | 0x09 | 0x11 | 0x12 => at + 8,
+            0x10 => at + 4,
+            0x02 | 0x0D | 0x0E => at + 4 + stated(),
+            0x03 | 0x04 | 0x0F => at + stated(),
+            0x05 => at + 5 + stated(),
+            0x06 | 0x0A | 0x7F | 0xFF => at,
+            0x07 => at + 12,
+            0x08 => at + 1,
+            0x0B => self.zero_after(self.zero_after(at) + 1) + 1,
+            0x0C => at + 4 + stated() + 12,
+            _ => at + 16,
+        }
+    }
+
+    /// The place of the zero byte that ends a text which was read.
+    fn zero_after(&self, at: usize) -> usize {
+        zero_from(self.bytes, at, self.bytes.len()).expect("the text was read")
     }
 }
 
@@ -601,7 +669,7 @@ pub fn append(
     let number = reader
         .documents(0, documents.len())
         .map_err(|(number, place)| (number, place + start))?;
-    if old.has_name(old.names.len(), identifier) {
+    if old.is_taken(view.body_start(), identifier) {
         return Err((24, end + 5));
     }
     output[..end].copy_from_slice(&message[..end]);

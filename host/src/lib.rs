@@ -180,6 +180,10 @@ pub fn write(
 /// end. The identifier comes without its zero byte; the documents stand back
 /// to back, and there may be none.
 ///
+/// An identifier that is taken is refused with [`Refusal::IdentifierClash`]: by
+/// a name at the top of the body, by another sequence, or, where it has dots, by
+/// a name that it leads to from the body on.
+///
 /// ```
 /// use relay::{append, write, Edition, Refusal};
 ///
@@ -191,6 +195,13 @@ pub fn write(
 ///
 /// let again = append(&Edition::HOUSE, &output[..view.length], b"runs", b"", &mut [0; 100]);
 /// assert_eq!(again, Err(Refusal::IdentifierClash(41)));
+///
+/// // A body with `points` inside `run`.
+/// let mut message = [0; 44];
+/// let body = b"\x17\0\0\0\x03run\0\x0D\0\0\0\x0Apoints\0\0\0";
+/// write(&Edition::HOUSE, 1, 0, 0, body, &mut message)?;
+/// let dotted = append(&Edition::HOUSE, &message, b"run.points", b"", &mut output);
+/// assert_eq!(dotted, Err(Refusal::IdentifierClash(49)));
 /// # Ok::<(), relay::Refusal>(())
 /// ```
 pub fn append(

@@ -83,7 +83,7 @@ refusals! {
     21 TooManyElements "element is number 4,097 of its message",
     22 NoBody "message has no body",
     23 NameTwice "body has a top-level name that equals an earlier one",
-    24 IdentifierClash "sequence's identifier is a top-level name of the body or an earlier identifier",
+    24 IdentifierClash "sequence's identifier is a top-level name of the body, an earlier identifier, or a dotted path to a name in the body",
     25 OutputShort "output is too short for the message, or view for its 107 numbers",
     27 TextNotUtf8 "name, identifier, string or part of a regular expression is not UTF-8",
     28 MoveTooFar "body is to move behind more sequences than the message has",
@@ -153,7 +153,7 @@ mod tests {
         let shown = Refusal::IdentifierClash(41).to_string();
         assert_eq!(
             shown,
-            "refusal 24 at 41: sequence's identifier is a top-level name of the body or an earlier identifier"
+            "refusal 24 at 41: sequence's identifier is a top-level name of the body, an earlier identifier, or a dotted path to a name in the body"
         );
     }
 }

@@ -18,9 +18,11 @@ mod common;
 
 use common::bson::*;
 use common::damage::damage;
+use common::dotted::{dotted_identifier, Told};
 use common::generate::*;
 use common::random::Random;
-use common::reference::{self, Edition, Refused, View, MAX_MESSAGE, MAX_SECTIONS, VIEW_NUMBERS};
+use common::reference::{self, Clash, Edition, Refused, View};
+use common::reference::{MAX_MESSAGE, MAX_SECTIONS, VIEW_NUMBERS};
 use common::text::{any_text, faulty_text, Faults};
 use common::{message::get_u32, setting};
 use relay::ffi;
@@ -217,6 +219,8 @@ fn any_identifier(random: &mut Random, edition: &Edition, message: &[u8]) -> Vec
         3 => b"trailing\0".to_vec(),
         4..=7 => taken_identifier(edition, message).unwrap_or_else(|| b"free".to_vec()),
         8 => faulty_text(random),
+        9..=15 => identifier_with_dots(random, edition, message)
+            .unwrap_or_else(|| b"free.of.dots".to_vec()),
         _ => {
             let length = random.between(1, 9);
             any_text(random, length)
@@ -233,6 +237,13 @@ fn taken_identifier(edition: &Edition, message: &[u8]) -> Option<Vec<u8>> {
     let name = &message[view.body().start + 5..view.body().end];
     let zero = name.iter().position(|&byte| byte == 0)?;
     (zero > 0).then(|| name[..zero].to_vec())
+}
+
+/// An identifier with dots that leads to a name in the body or nearly so.
+fn identifier_with_dots(random: &mut Random, edition: &Edition, message: &[u8]) -> Option<Vec<u8>> {
+    let (_, body) = reference::read_before_24(edition, message).ok()?;
+    let clashes = random.percent(70);
+    dotted_identifier(random, message, &body, clashes)
 }
 
 /// A run of documents for a message of this length.
@@ -607,10 +618,15 @@ struct Tally {
     /// 28 where the output or the view is too short as well.
     far_and_short: u64,
     faults: Faults,
+    /// For each call: 24 where an identifier leads to a name, in append the new
+    /// identifier.
+    paths: [u64; CALLS.len()],
+    told: Told,
 }
 
 impl Tally {
     fn note(&mut self, case: &Case, answer: &Result<View, Refused>) {
+        self.note_path(case, answer);
         let row = &mut self.answers[case.call.index()];
         match answer {
             Err(refused) => {
@@ -624,6 +640,32 @@ impl Tally {
                 self.note_features(case, view);
             }
         }
+    }
+
+    /// Counts a case that came to check 24.
+    fn note_path(&mut self, case: &Case, answer: &Result<View, Refused>) {
+        let refused = answer.as_ref().err();
+        if refused.is_some_and(|refused| refused.number != 24) {
+            return;
+        }
+        let (message, new) = match &case.call {
+            Call::Read { message } | Call::Forward { message } | Call::Move { message, .. } => {
+                (message, None)
+            }
+            Call::Append {
+                message,
+                identifier,
+                ..
+            } => (message, Some(&identifier[..])),
+            Call::Write { .. } => return,
+        };
+        // Behind the message stands what is new.
+        let of_message = refused.is_some_and(|refused| refused.place < stated_length(message));
+        let new = new.filter(|_| !of_message);
+        self.told.note(&case.edition(), message, new);
+        let by_path = refused.is_some_and(|refused| refused.clash == Some(Clash::Path));
+        let counted = !matches!(case.call, Call::Append { .. }) || new.is_some();
+        self.paths[case.call.index()] += u64::from(by_path && counted);
     }
 
     fn note_features(&mut self, case: &Case, view: &View) {
@@ -677,6 +719,8 @@ impl Tally {
         add_each(&mut self.targets, &other.targets);
         self.far_and_short += other.far_and_short;
         self.faults.add(&other.faults);
+        add_each(&mut self.paths, &other.paths);
+        self.told.add(&other.told);
     }
 
     fn total(&self, number: usize) -> u64 {
@@ -710,6 +754,10 @@ impl Tally {
             println!("{place:>8} {stood:>9} {moved:>9}");
         }
         self.faults.print();
+        for (call, count) in CALLS.iter().zip(self.paths) {
+            println!("{count:>9} {call} refused with 24, by a path");
+        }
+        self.told.print();
     }
 
     /// Every answer must come often, or the cases show too little.
@@ -750,6 +798,15 @@ impl Tally {
             );
         }
         self.faults.check(cases / 10_000);
+        // Writing makes no sequence.
+        for (call, one_in) in [(0, 300), (1, 1_000), (3, 300), (4, 1_000)] {
+            let (call, count) = (CALLS[call], self.paths[call]);
+            assert!(
+                count >= cases / one_in,
+                "{call} refused with 24 by a path {count} times"
+            );
+        }
+        self.told.check(cases / 2_000);
     }
 }
 

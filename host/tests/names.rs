@@ -2,7 +2,8 @@
 //! first byte, and of several the first. Bodies of few names and of as many as
 //! fit, names of all families of the benchmark, and random ones. The C
 //! functions are held against the independent reader, and against what the
-//! names themselves say.
+//! names themselves say. At the end stands check 24 with identifiers that make
+//! following them dear.
 //!
 //! RELAY_CASES is the number of random cases (1,000 if not set), RELAY_SEED
 //! the seed (1). A failure names its seed and case; RELAY_FIRST=<case>
@@ -18,6 +19,7 @@
 mod common;
 
 use common::bson::*;
+use common::dotted;
 use common::generate::{any_element, Style};
 use common::message::{Draft, Section};
 use common::names::Family;
@@ -127,6 +129,33 @@ fn compare_read(message: &[u8], expected: &Result<View, Refused>, case: &str) {
         Err(_) => [NUMBER; VIEW_NUMBERS],
     };
     assert!(view == shown, "{case}: the view of read");
+}
+
+/// A message whose identifiers have dots: all of them are free, or the one of
+/// this number leads to a name.
+fn check_identifiers(body: &[u8], identifiers: &Names, leading: Option<usize>, case: &str) {
+    let message = dotted::with_identifiers(body.to_vec(), identifiers);
+    assert!(message.len() <= MAX_MESSAGE, "{case}: too long");
+    let expected = reference::read(&HOUSE, &message);
+    match (&expected, leading) {
+        (Ok(view), None) => assert_eq!(view.sequences().len(), identifiers.len(), "{case}"),
+        (Err(refused), Some(index)) => {
+            let before = identifiers[..index].iter().map(|i| i.len() + 6);
+            let place = 21 + body.len() + before.sum::<usize>() + 5;
+            assert_eq!((refused.number, refused.place), (24, place), "{case}");
+        }
+        _ => panic!("{case}: the independent reader answers {expected:?}"),
+    }
+    compare_read(&message, &expected, case);
+    // The last one appended to the others.
+    if let Some((last, others)) = identifiers.split_last() {
+        let named = Named {
+            message: dotted::with_identifiers(body.to_vec(), others),
+            body: body.to_vec(),
+            places: Vec::new(),
+        };
+        compare_others(&named, last, case);
+    }
 }
 
 /// The four calls that write, on the same message and body.
@@ -577,5 +606,102 @@ fn any_identifier(random: &mut Random, names: &Names) -> Vec<u8> {
         name.clone()
     } else {
         b"+documents".to_vec()
+    }
+}
+
+// ----------------------------------------------- identifiers that cost much
+
+/// Sixteen identifiers, each of which is followed through all of the body.
+#[test]
+fn sixteen_identifiers_through_long_bodies() {
+    let counts = dotted::LENGTHS.map(dotted::fitting_points);
+    for count in [0, 1].into_iter().chain(counts) {
+        let case = format!("{count} points");
+        let mut body = dotted::points(count);
+        let mut identifiers = dotted::in_vain('.');
+        check_identifiers(&body, &identifiers, None, &case);
+
+        // The last name of the last document, by each of them in turn.
+        let Some(place) = last_place(&body, b"measured_8") else {
+            continue;
+        };
+        body[place..place + 10].copy_from_slice(b"measured_9");
+        for index in [0, 7, 15] {
+            let vain = identifiers[index].clone();
+            identifiers[index] = b"run.points.measured_9".to_vec();
+            check_identifiers(&body, &identifiers, Some(index), &case);
+            identifiers[index] = vain;
+        }
+    }
+}
+
+fn last_place(bytes: &[u8], part: &[u8]) -> Option<usize> {
+    bytes.windows(part.len()).rposition(|bytes| bytes == part)
+}
+
+/// A last name that is longer than all names of the body, and is looked for in
+/// every document of one name.
+#[test]
+fn a_long_last_name_in_many_documents() {
+    for count in [0, 1, 10, 100, 1_000, 2_000] {
+        let body = dotted::many_documents(count);
+        for length in [1, 2, 200, 20_000] {
+            let case = format!("{length} bytes in {count} documents");
+            let identifiers = vec![dotted::with_long_name(length)];
+            let leading = (length == 1 && count > 0).then_some(0);
+            check_identifiers(&body, &identifiers, leading, &case);
+        }
+        // Sixteen that are a part of it each.
+        let identifiers = (0..16)
+            .map(|index| dotted::with_long_name(1_000 + index))
+            .collect();
+        let case = format!("16 long names in {count} documents");
+        check_identifiers(&body, &identifiers, None, &case);
+    }
+    // The same name in the last document, or another by a byte.
+    let few = dotted::many_documents(500);
+    let long = vec![b'n'; 20_000];
+    let mut changed = long.clone();
+    changed[19_999] = b'm';
+    for (name, leading) in [
+        (&long, Some(0)),
+        (&changed, None),
+        (&long[1..].to_vec(), None),
+    ] {
+        let last = element(0x03, b"a", &document(&element(0x0A, name, b"")));
+        // The elements of `r` stand behind its own length.
+        let inside = [&few[11..few.len() - 2], &last].concat();
+        let body = document(&element(0x03, b"r", &document(&inside)));
+        let identifiers = vec![dotted::with_long_name(20_000)];
+        check_identifiers(&body, &identifiers, leading, "a long name inside");
+    }
+}
+
+/// Far more names than a body has levels.
+#[test]
+fn thousands_of_dots_beside_nested_empty_names() {
+    for levels in [2, 3, 7, 13] {
+        let body = dotted::unnamed_tree(levels);
+        for dots in (1..40).chain([100, 5_000, 20_000]) {
+            let case = format!("{dots} dots, {levels} levels");
+            let leading = (dots + 1 < levels).then_some(0);
+            check_identifiers(&body, &vec![b".".repeat(dots)], leading, &case);
+        }
+        // To the innermost names of all, and in vain.
+        let identifiers: Names = (0..16)
+            .map(|index| [b".".repeat(levels - 1), vec![b'a' + index]].concat())
+            .collect();
+        let case = format!("16 identifiers of dots, {levels} levels");
+        check_identifiers(&body, &identifiers, None, &case);
+    }
+    // Many empty names beside each other.
+    let body = document(&element(
+        0x03,
+        b"",
+        &document(&element(0x03, b"", &EMPTY).repeat(4_000)),
+    ));
+    for (dots, leading) in [(1, Some(0)), (2, None), (10_000, None)] {
+        let case = format!("{dots} dots, 4,000 names");
+        check_identifiers(&body, &vec![b".".repeat(dots)], leading, &case);
     }
 }

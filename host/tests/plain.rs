@@ -7,9 +7,10 @@ mod plain;
 mod common;
 
 use common::damage::damage;
+use common::dotted::dotted_identifier;
 use common::generate::*;
 use common::random::Random;
-use common::reference::{self, Edition, Refused, View, MAX_MESSAGE};
+use common::reference::{self, Clash, Edition, Refused, View, MAX_MESSAGE};
 use common::setting;
 use common::text::{any_text, faulty_text, Faults};
 
@@ -71,12 +72,15 @@ fn compare(
 
 const CASES: u64 = 40_000;
 
-/// How often a text was not UTF-8, and what moves did.
+/// How often a text was not UTF-8, an identifier led to a name, and what moves
+/// did.
 #[derive(Default)]
 struct Seen {
     /// In read, forward, move, append and write.
     calls: [u64; 5],
     faults: Faults,
+    /// The same of paths.
+    paths: [u64; 5],
     /// To another place, and refused with 28.
     moved: u64,
     too_far: u64,
@@ -87,6 +91,7 @@ impl Seen {
         if let Err(refused) = expected {
             self.calls[call] += u64::from(refused.number == 27);
             self.faults.note(refused);
+            self.paths[call] += u64::from(refused.clash == Some(Clash::Path));
         }
     }
 }
@@ -147,6 +152,7 @@ fn the_plain_reader_agrees_with_the_independent_one() {
         let identifier = match random.below(10) {
             0 => faulty_text(random),
             1 => random.text(3),
+            2..=6 => identifier_with_dots(random, &edition, &message),
             _ => any_text(random, 3),
         };
         output.fill(0xAA);
@@ -180,6 +186,11 @@ fn the_plain_reader_agrees_with_the_independent_one() {
         seen.calls
     );
     seen.faults.check(CASES / 1_000);
+    // What the message itself is refused for, append refuses too.
+    let [read, .., append, _] = seen.paths;
+    assert!(read >= CASES / 100, "24 by a path came {read} times");
+    let new = append - read;
+    assert!(new >= CASES / 200, "24 by a new path came {new} times");
     assert!(seen.moved >= CASES / 20, "moved {} times", seen.moved);
     assert!(seen.too_far >= CASES / 50, "28 came {} times", seen.too_far);
 }
@@ -194,6 +205,14 @@ fn any_message(random: &mut Random, edition: &Edition) -> Vec<u8> {
         damage(random, &mut message);
     }
     message
+}
+
+/// An identifier that leads to a name of the body or nearly so, where the
+/// message has such a body.
+fn identifier_with_dots(random: &mut Random, edition: &Edition, message: &[u8]) -> Vec<u8> {
+    let clashes = random.percent(80);
+    let body = reference::read_before_24(edition, message).map_or(Vec::new(), |(_, body)| body);
+    dotted_identifier(random, message, &body, clashes).unwrap_or_else(|| any_text(random, 3))
 }
 
 #[test]

@@ -1,7 +1,8 @@
 //! What document 00 demands of the calls together, run on random messages:
 //! the round trip, and what two editions make of one message. With it, what
 //! change request 5 says of moved bodies, which the round trip needs where the
-//! body is not first, and change request 13 of any chain of relays.
+//! body is not first, change request 2 of identifiers with dots, and change
+//! request 13 of any chain of relays.
 //!
 //! RELAY_CASES sets the number of messages (20,000 if not set), RELAY_SEED the
 //! seed.
@@ -9,6 +10,7 @@
 mod common;
 
 use common::bson::{element, nulls};
+use common::dotted::dotted_identifier;
 use common::generate::*;
 use common::message::{get_u32, Draft};
 use common::random::Random;
@@ -16,6 +18,7 @@ use common::{message, reference, setting};
 use relay::{append, forward, move_body, read, write, Edition, Refusal, Section, View};
 use relay::{MAX_LENGTH, MAX_SECTIONS, MAX_SEQUENCES};
 use std::cell::Cell;
+use std::collections::BTreeSet;
 
 fn cases() -> u64 {
     setting("RELAY_CASES", 20_000)
@@ -372,6 +375,188 @@ fn every_place_among_up_to_16_sequences_to_every_other() {
             }
         }
     }
+}
+
+// ------------------------------------------------------------------- paths
+
+/// Adds the ways by name from these elements on: to each of them, and through
+/// the documents among them, with dots between the names. A name that holds a
+/// dot is on no way, so that two ways never read the same.
+fn add_ways(
+    bytes: &[u8],
+    elements: &[reference::Element],
+    before: &[u8],
+    ways: &mut BTreeSet<Vec<u8>>,
+) {
+    for element in elements {
+        let name = &bytes[element.name.clone()];
+        if name.contains(&b'.') {
+            continue;
+        }
+        let way = [before, name].concat();
+        if element.kind == 0x03 {
+            let onwards = [&way[..], b"."].concat();
+            add_ways(bytes, &element.inside, &onwards, ways);
+        }
+        ways.insert(way);
+    }
+}
+
+/// A message that can be appended to, what stands in its body, and the place
+/// that a new identifier would have.
+struct Open {
+    message: Vec<u8>,
+    body: Vec<reference::Element>,
+    ways: BTreeSet<Vec<u8>>,
+    place: usize,
+}
+
+impl Open {
+    fn any(random: &mut Random, edition: &Edition) -> Option<Open> {
+        let message = any_message(random, edition);
+        let view = read(edition, &message).ok()?;
+        if !edition.sequences || view.sequences().len() == MAX_SEQUENCES {
+            return None;
+        }
+        let (_, body) = reference::read_before_24(&as_reference(edition), &message).ok()?;
+        let mut ways = BTreeSet::new();
+        add_ways(&message, &body, b"", &mut ways);
+        let end = view.length - 4 * (view.flags & 1) as usize;
+        Some(Open {
+            message,
+            body,
+            ways,
+            place: end + 5,
+        })
+    }
+
+    /// Whether there is room for a sequence of no documents.
+    fn has_room(&self, identifier: &[u8]) -> bool {
+        get_u32(&self.message, 0) as usize + 6 + identifier.len() <= MAX_LENGTH
+    }
+
+    fn append(&self, edition: &Edition, identifier: &[u8]) -> Result<View, Refusal> {
+        append(
+            edition,
+            &self.message,
+            identifier,
+            b"",
+            &mut [0; MAX_LENGTH],
+        )
+    }
+}
+
+#[test]
+fn a_way_through_the_body_s_documents_is_a_clash() {
+    let long = Cell::new(0);
+    for_cases(10, |random| {
+        let edition = any_relay(random);
+        let Some(open) = Open::any(random, &edition) else {
+            return false;
+        };
+        let ways = open.ways.iter().filter(|way| way.contains(&b'.'));
+        let ways: Vec<&Vec<u8>> = ways.filter(|way| open.has_room(way)).collect();
+        let clash = Err(Refusal::IdentifierClash(open.place));
+        for _ in 0..ways.len().min(5) {
+            let way = random.pick(&ways);
+            assert_eq!(open.append(&edition, way), clash, "{}", way.escape_ascii());
+            if way.iter().filter(|&&byte| byte == b'.').count() > 1 {
+                count(&long);
+            }
+        }
+        !ways.is_empty()
+    });
+    assert!(long.get() >= cases() / 10);
+}
+
+#[test]
+fn an_identifier_with_dots_clashes_with_nothing_else() {
+    let [clashes, accepted] = [const { Cell::new(0) }; 2];
+    for_cases(3, |random| {
+        let edition = any_relay(random);
+        let Some(open) = Open::any(random, &edition) else {
+            return false;
+        };
+        let wanted = random.percent(20);
+        let Some(new) = dotted_identifier(random, &open.message, &open.body, wanted) else {
+            return false;
+        };
+        if !open.has_room(&new) {
+            return false;
+        }
+        let view = read(&edition, &open.message).expect("accepted");
+        let mut identifiers = view.sequences().map(|s| &open.message[s.identifier]);
+        let mut names = open.body.iter().map(|e| &open.message[e.name.clone()]);
+        let taken = open.ways.contains(&new)
+            || identifiers.any(|identifier| identifier == new)
+            || names.any(|name| name == new);
+        let answer = open.append(&edition, &new).map(|_| ());
+        if taken {
+            assert_eq!(answer, Err(Refusal::IdentifierClash(open.place)));
+            count(&clashes);
+        } else {
+            assert_eq!(answer, Ok(()), "{}", new.escape_ascii());
+            count(&accepted);
+        }
+        true
+    });
+    assert!(clashes.get() >= cases() / 50);
+    assert!(accepted.get() >= cases() / 5);
+}
+
+#[test]
+fn a_clash_stays_wherever_the_body_stands() {
+    let clashes = Cell::new(0);
+    for_cases(4, |random| {
+        let edition = any_relay(random);
+        let mut draft = any_draft(random, &as_reference(&edition));
+        if random.percent(60) {
+            path_clash(random, &mut draft);
+        }
+        let place = draft
+            .sections
+            .iter()
+            .position(|section| matches!(section, message::Section::Body(_)))
+            .expect("a body");
+        let body = draft.sections.remove(place);
+        // The places of the identifiers, and the answer, for each place of the body.
+        let answers: Vec<_> = (0..=draft.sections.len())
+            .map(|place| {
+                let mut draft = draft.clone();
+                draft.sections.insert(place, body.clone());
+                let mut at = 20;
+                let mut places = Vec::new();
+                for section in &draft.sections {
+                    if let message::Section::Sequence { .. } = section {
+                        places.push(at + 5);
+                    }
+                    at += section.bytes().len();
+                }
+                let bytes = draft.bytes();
+                let answer = read(&edition, &bytes);
+                let forwarded = forward(&edition, &bytes, &mut [0; MAX_LENGTH]);
+                assert_eq!(forwarded, answer);
+                (places, answer)
+            })
+            .collect();
+        let which = |(places, answer): &(Vec<usize>, Result<View, Refusal>)| match answer {
+            Ok(_) => None,
+            Err(Refusal::IdentifierClash(at)) => places.iter().position(|place| place == at),
+            Err(refusal) => panic!("{refusal}"),
+        };
+        match answers[0].1 {
+            Ok(_) => assert!(answers.iter().all(|(_, answer)| answer.is_ok())),
+            Err(Refusal::IdentifierClash(_)) => {
+                let first = which(&answers[0]);
+                assert!(first.is_some());
+                assert!(answers.iter().all(|answer| which(answer) == first));
+                count(&clashes);
+            }
+            Err(_) => return false,
+        }
+        answers.len() > 1
+    });
+    assert!(clashes.get() >= cases() / 10);
 }
 
 // ---------------------------------------------------------------- editions

@@ -1,7 +1,8 @@
 //! The trials T1 to T14 of document 01, its limits and its marked orders, where
-//! texts and binaries of subtype 02 (change request 4) come among them, and the
-//! list of sections and moved bodies (change request 5), run directly. The
-//! independent reader must give the same answers.
+//! texts and binaries of subtype 02 (change request 4) come among them, the
+//! list of sections and moved bodies (change request 5), and identifiers with
+//! dots (change request 2), run directly. The independent reader must give the
+//! same answers.
 
 mod common;
 
@@ -1481,5 +1482,652 @@ fn moving_at_the_greatest_length_among_sixteen_sequences() {
             move_body(&HOUSE, &message, 17, &mut vec![0; ROOM]),
             Err(Refusal::MoveTooFar(0))
         );
+    }
+}
+
+// ----------------------------------------------------- identifiers with dots
+
+/// A document of these elements, as an element.
+fn within(name: &[u8], elements: &[Vec<u8>]) -> Vec<u8> {
+    element(0x03, name, &document(&elements.concat()))
+}
+
+fn null(name: &[u8]) -> Vec<u8> {
+    element(0x0A, name, b"")
+}
+
+/// Whether a sequence may not have this identifier behind a body of these
+/// elements; then it is refused at its place.
+fn is_taken(elements: &[Vec<u8>], identifier: &[u8]) -> bool {
+    let body = document(&elements.concat());
+    let place = 21 + body.len() + 5;
+    match read_sections(&[Section::Body(body), with_identifier(identifier, b"")]) {
+        Ok(_) => false,
+        Err(refusal) => {
+            assert_eq!(refusal, Refusal::IdentifierClash(place));
+            true
+        }
+    }
+}
+
+/// The body of the worked examples, which the definition was tried on.
+fn worked_body() -> [Vec<u8>; 7] {
+    let run = within(
+        b"run",
+        &[
+            element(0x10, b"points", &[1, 0, 0, 0]),
+            within(b"sub", &[null(b"x")]),
+            element(0x04, b"arr", &document(&[null(b"0"), null(b"x")].concat())),
+        ],
+    );
+    let twice = within(
+        b"twice",
+        &[
+            null(b"d"),
+            within(b"d", &[null(b"q")]),
+            within(b"d", &[null(b"r")]),
+        ],
+    );
+    let unnamed = within(b"", &[null(b""), null(b"a")]);
+    let list = element(0x04, b"list", &document(&null(b"0")));
+    let scope = code_with_scope(b"", &document(&null(b"v")));
+    let code = element(0x0F, b"code", &scope);
+    // As they stand there.
+    assert_eq!((run[5], twice[7], unnamed[2], scope[0]), (46, 30, 10, 17));
+    [
+        run,
+        twice,
+        unnamed,
+        null(b"one.two"),
+        list,
+        code,
+        null(b"flat"),
+    ]
+}
+
+/// The last name of these is found in the worked body.
+const LEADING: [&[u8]; 9] = [
+    b"run.points",
+    b"run.arr",
+    b"run.sub.x",
+    b"twice.d",
+    b"twice.d.q",
+    b"twice.d.r",
+    b".",
+    b".a",
+    b"flat",
+];
+
+/// That of these is not, or a name before it is no document's; then names are
+/// empty, or parted at a dot that stands in a name.
+const LOST: [&[u8]; 15] = [
+    b"run.other",
+    b"run.points.x",
+    b"run.arr.x",
+    b"twice.d.s",
+    b"list.0",
+    b"code.v",
+    b"flat.x",
+    b"points",
+    b"d.q",
+    b"..",
+    b"run.",
+    b".run",
+    b".points",
+    b"run..points",
+    b"one.two",
+];
+
+#[test]
+fn the_identifiers_of_the_worked_body() {
+    let body = worked_body();
+    for identifier in LEADING {
+        assert!(is_taken(&body, identifier), "{}", identifier.escape_ascii());
+    }
+    for identifier in LOST {
+        // A name at the top is compared as a whole.
+        let whole = identifier == b"one.two";
+        let taken = is_taken(&body, identifier);
+        assert_eq!(taken, whole, "{}", identifier.escape_ascii());
+    }
+    // The same one level deeper, where no name is compared as a whole.
+    let deeper = [within(b"in", &body)];
+    let also = |identifier: &[u8]| [b"in.", identifier].concat();
+    for identifier in LEADING {
+        assert!(is_taken(&deeper, &also(identifier)));
+        assert!(!is_taken(&deeper, identifier));
+    }
+    for identifier in LOST {
+        assert!(!is_taken(&deeper, &also(identifier)));
+        assert!(!is_taken(&deeper, identifier));
+    }
+}
+
+#[test]
+fn the_worked_clashes_by_number_and_place() {
+    let elements = [within(b"run", &[null(b"p")]), null(b"f"), null(b"o.t")].concat();
+    let body = &Section::Body(document(&elements));
+    let [p, q, f, t] =
+        &[&b"run.p"[..], b"run.q", b"f", b"o.t"].map(|name| with_identifier(name, b""));
+    let clash = |place| Err(Refusal::IdentifierClash(place));
+    let read = |sections: &[&Section]| {
+        let sections: Vec<Section> = sections.iter().map(|&s| s.clone()).collect();
+        read_sections(&sections).map(|view| view.sequences().len())
+    };
+    assert_eq!(read(&[body, q]), Ok(1));
+    assert_eq!(read(&[body, p]), clash(52));
+    assert_eq!(read(&[p, body]), clash(25));
+    assert_eq!(read(&[body, q, f, p]), clash(63));
+    assert_eq!(read(&[body, q, p, f]), clash(63));
+    assert_eq!(read(&[q, body, q]), clash(63));
+    assert_eq!(read(&[body, t]), clash(52));
+
+    let append = |sections: &[&Section], identifier: &[u8]| {
+        let message = Draft::new(sections.iter().map(|&s| s.clone()).collect()).bytes();
+        let mut output = [0xAA; 999];
+        let answer = append(&HOUSE, &message, identifier, b"", &mut output);
+        assert!(answer.is_ok() || output == [0xAA; 999]);
+        answer.map(|view| view.sequences().len())
+    };
+    assert_eq!(append(&[body, q], b"run.p"), clash(63));
+    assert_eq!(append(&[q, body], b"run.q"), clash(63));
+    assert_eq!(append(&[body], b"run.p.x"), Ok(1));
+}
+
+/// A value of each type; of 03, 04 and 0F with `x` inside.
+fn value_of(kind: u8) -> Vec<u8> {
+    let inside = document(&null(b"x"));
+    match kind {
+        0x01 | 0x09 | 0x11 | 0x12 => vec![0; 8],
+        0x02 | 0x0D | 0x0E => string(b"x"),
+        0x03 | 0x04 | 0x0F => holder(kind, &inside),
+        0x05 => binary(0, &inside),
+        0x07 => vec![0; 12],
+        0x08 => vec![1],
+        0x0B => b"x\0x\0".to_vec(),
+        0x0C => [string(b"x"), vec![0; 12]].concat(),
+        0x10 => vec![0; 4],
+        0x13 => vec![0; 16],
+        _ => Vec::new(),
+    }
+}
+
+#[test]
+fn the_last_name_may_be_of_any_type_and_the_others_are_documents() {
+    for kind in TYPES {
+        let value = value_of(kind);
+        let body = [within(b"run", &[element(kind, b"last", &value)])];
+        assert!(is_taken(&body, b"run.last"), "{kind:#04x}");
+        assert_eq!(is_taken(&body, b"run.last.x"), kind == 0x03, "{kind:#04x}");
+        let top = [element(kind, b"last", &value)];
+        assert_eq!(is_taken(&top, b"last.x"), kind == 0x03, "{kind:#04x}");
+    }
+}
+
+#[test]
+fn every_element_is_passed_over_on_the_way() {
+    // Elements of all types at both levels before the names that count.
+    let others: Vec<Vec<u8>> = TYPES
+        .iter()
+        .map(|&kind| element(kind, format!("t{kind}").as_bytes(), &value_of(kind)))
+        .collect();
+    let inside = [&others[..], &[null(b"points")]].concat();
+    let body = [&others[..], &[within(b"run", &inside)]].concat();
+    assert!(is_taken(&body, b"run.points"));
+    assert!(!is_taken(&body, b"run.point"));
+    assert!(!is_taken(&body, b"run.x"));
+    for kind in TYPES {
+        assert!(is_taken(&body, format!("run.t{kind}").as_bytes()));
+        let entered = is_taken(&body, format!("run.t{kind}.x").as_bytes());
+        assert_eq!(entered, kind == 0x03, "{kind:#04x}");
+        let entered = is_taken(&body, format!("t{kind}.x").as_bytes());
+        assert_eq!(entered, kind == 0x03, "{kind:#04x}");
+    }
+}
+
+#[test]
+fn of_a_repeated_nested_name_any_counts() {
+    let array = element(0x04, b"d", &document(&null(b"of an array")));
+    let scope = code_with_scope(b"", &document(&null(b"of a scope")));
+    let one = [
+        null(b"d"),
+        array,
+        within(b"d", &[null(b"one"), within(b"e", &[null(b"x")])]),
+        element(0x0F, b"d", &scope),
+        within(b"d", &[]),
+        within(b"d", &[null(b"two"), null(b"e"), within(b"e", &[])]),
+        within(b"other", &[null(b"three")]),
+        within(b"d", &[null(b"four"), within(b"e", &[null(b"y")])]),
+        element(0x10, b"d", &[0; 4]),
+    ];
+    let mut orders = vec![one.to_vec(), one.iter().rev().cloned().collect()];
+    for place in 1..one.len() {
+        let mut order = one.to_vec();
+        order.rotate_left(place);
+        orders.push(order);
+    }
+    for order in orders {
+        let body = [within(b"r", &order)];
+        for free in [&b"three"[..], b"of an array", b"of a scope", b"e.z", b"d"] {
+            assert!(!is_taken(&body, &[b"r.d.", free].concat()));
+        }
+        for taken in [&b"one"[..], b"two", b"four", b"e", b"e.x", b"e.y"] {
+            assert!(is_taken(&body, &[b"r.d.", taken].concat()));
+        }
+        assert!(is_taken(&body, b"r.d"));
+        assert!(is_taken(&body, b"r.other.three"));
+    }
+}
+
+#[test]
+fn names_are_compared_whole() {
+    let body = [
+        within(b"run", &[null(b"points"), null("größe".as_bytes())]),
+        within(b"ru", &[null(b"n")]),
+        within("meßreihe".as_bytes(), &[null(b"x")]),
+    ];
+    let taken = ["run.points", "run.größe", "ru.n", "meßreihe.x"];
+    for identifier in taken {
+        assert!(is_taken(&body, identifier.as_bytes()), "{identifier}");
+    }
+    let free = [
+        "run.point",
+        "run.pointss",
+        "run.Points",
+        "ru.points",
+        "runs.points",
+        "run.grö",
+        "r.un",
+        "run.n",
+        "ru.run",
+        "meßreihe.y",
+        "me.x",
+        "points.run",
+        "run.points.",
+        ".run.points",
+        "run. points",
+        "run .points",
+        // Other characters that look like a dot.
+        "run․points",
+        "run．points",
+        "run。points",
+        "run·points",
+    ];
+    for identifier in free {
+        assert!(!is_taken(&body, identifier.as_bytes()), "{identifier}");
+    }
+}
+
+#[test]
+fn a_name_with_a_dot_is_never_followed() {
+    // At the top it is compared as a whole, whatever stands beside it.
+    let body = [null(b"a.b"), null(b"."), null(b"x."), null(b".x")];
+    for identifier in [&b"a.b"[..], b".", b"x.", b".x"] {
+        assert!(is_taken(&body, identifier));
+    }
+    for identifier in [
+        &b"a"[..],
+        b"b",
+        b"x",
+        b"..",
+        b"a.b.",
+        b"a.b.c",
+        b"x..",
+        b"a..b",
+    ] {
+        assert!(!is_taken(&body, identifier));
+    }
+    // Inside, and on the way, it is not met.
+    let inside = [within(b"r", &body), within(b"s.t", &[null(b"u")])];
+    for identifier in [&b"r.a.b"[..], b"r..", b"r.x.", b"r..x", b"s.t.u"] {
+        assert!(
+            !is_taken(&inside, identifier),
+            "{}",
+            identifier.escape_ascii()
+        );
+    }
+    assert!(is_taken(&inside, b"s.t"));
+    // What it looks like may be there too.
+    let both = [within(b"r", &[null(b"a.b"), within(b"a", &[null(b"b")])])];
+    assert!(is_taken(&both, b"r.a.b"));
+}
+
+/// Documents of so many levels inside each other, all by this name.
+fn chain(name: &[u8], levels: usize) -> Vec<u8> {
+    let mut inside = EMPTY.to_vec();
+    for _ in 1..levels {
+        inside = document(&element(0x03, name, &inside));
+    }
+    inside
+}
+
+#[test]
+fn identifiers_of_dots_beside_nested_empty_names() {
+    let elements_of = |body: &[u8]| [body[4..body.len() - 1].to_vec()];
+    for levels in [1, 2, 3, 4, 31, 32] {
+        let body = elements_of(&chain(b"", levels));
+        // So many dots stand between one name more.
+        for dots in 1..40 {
+            let names = dots + 1;
+            let taken = is_taken(&body, &b".".repeat(dots));
+            assert_eq!(taken, names < levels, "{dots} dots, {levels} levels");
+        }
+        assert!(!is_taken(&body, &b".".repeat(4_000)));
+    }
+    // A name that is not empty is none of them, and they are no other name.
+    let body = elements_of(&chain(b"", 4));
+    for identifier in [&b"a"[..], b".a", b"a.", b"..a", b".a.", b"a.."] {
+        assert!(!is_taken(&body, identifier));
+    }
+    let body = elements_of(&chain(b"a", 4));
+    assert!(is_taken(&body, b"a.a.a"));
+    for identifier in [&b"."[..], b"..", b"a.", b".a", b"a..a", b".a.a", b"a.a."] {
+        assert!(!is_taken(&body, identifier));
+    }
+    let body = [within(b"", &[within(b"a", &[within(b"", &[null(b"b")])])])];
+    for identifier in [&b".a"[..], b".a.", b".a..b"] {
+        assert!(is_taken(&body, identifier));
+    }
+    for identifier in [
+        &b"."[..],
+        b"a",
+        b"a.",
+        b"a..b",
+        b".a.b",
+        b"..a",
+        b".a..",
+        b".a..b.",
+    ] {
+        assert!(!is_taken(&body, identifier));
+    }
+}
+
+#[test]
+fn a_path_through_32_levels() {
+    let body = nested(0x03, 32);
+    let message = with_body(body.clone());
+    for names in 1..=40 {
+        let identifier = vec!["n"; names].join(".").into_bytes();
+        let taken = names <= 31;
+        assert_eq!(
+            is_taken(&[body[4..body.len() - 1].to_vec()], &identifier),
+            taken
+        );
+        let answer = append(&HOUSE, &message, &identifier, b"", &mut [0; 999]);
+        let expected = Err(Refusal::IdentifierClash(message.len() + 5));
+        assert_eq!(answer.map(|_| ()), if taken { expected } else { Ok(()) });
+    }
+    // Where one level is an array or a scope, its name is the last that counts.
+    for kind in [0x04, 0x0F] {
+        for level in 1..32 {
+            let mut inside = EMPTY.to_vec();
+            for around in (1..32).rev() {
+                let kind = if around == level { kind } else { 0x03 };
+                inside = document(&element(kind, b"n", &holder(kind, &inside)));
+            }
+            let body = [inside[4..inside.len() - 1].to_vec()];
+            for (names, taken) in [(level, true), (level + 1, false), (31, level == 31)] {
+                let identifier = vec!["n"; names].join(".").into_bytes();
+                assert_eq!(is_taken(&body, &identifier), taken, "{names} of {level}");
+            }
+        }
+    }
+}
+
+#[test]
+fn a_clash_of_names_comes_before_a_path() {
+    let twice = [within(b"run", &[null(b"p")]), null(b"f"), null(b"f")].concat();
+    let path = with_identifier(b"run.p", b"");
+    let body = Section::Body(document(&twice));
+    // Its second `f` is 4 + 13 + 3 + 1 bytes behind the body's start.
+    assert_eq!(
+        read_sections(&[path.clone(), body.clone()]),
+        Err(Refusal::NameTwice(20 + 11 + 1 + 21))
+    );
+    assert_eq!(
+        read_sections(&[body, path.clone()]),
+        Err(Refusal::NameTwice(21 + 21))
+    );
+    // So do a missing body, and a name inside that is not UTF-8.
+    assert_eq!(
+        read_sections(&[path.clone(), path.clone()]),
+        Err(Refusal::NoBody(42))
+    );
+    let bad = Section::Body(document(&within(b"run", &[null(b"p"), null(BAD)])));
+    assert_eq!(
+        read_sections(&[path, bad]),
+        Err(Refusal::TextNotUtf8(20 + 11 + 1 + 4 + 5 + 4 + 3 + 1 + 2))
+    );
+}
+
+/// All orders of four.
+fn orders() -> Vec<[usize; 4]> {
+    let all = (0..256).map(|number| [number / 64, number / 16 % 4, number / 4 % 4, number % 4]);
+    all.filter(|order| (0..4).all(|index| order.contains(&index)))
+        .collect()
+}
+
+#[test]
+fn the_first_identifier_that_clashes_in_any_way() {
+    let body = Section::Body(document(
+        &[within(b"run", &[null(b"p")]), null(b"f")].concat(),
+    ));
+    // A path, a name at the top, and one identifier twice.
+    let names: [&[u8]; 4] = [b"run.p", b"f", b"x.y.z", b"x.y.z"];
+    assert_eq!(orders().len(), 24);
+    for order in orders() {
+        for place in 0..=4 {
+            let identifiers = order.map(|index| names[index]);
+            let mut sections = identifiers.map(|name| with_identifier(name, b"")).to_vec();
+            sections.insert(place, body.clone());
+            let second = identifiers.iter().rposition(|name| *name == b"x.y.z");
+            let first = identifiers
+                .iter()
+                .position(|name| matches!(*name, b"run.p" | b"f"))
+                .into_iter()
+                .chain(second)
+                .min()
+                .expect("a clash");
+            let before = first + usize::from(first >= place);
+            let bytes = sections[..before].iter().map(|s| s.bytes().len());
+            let expected = Refusal::IdentifierClash(20 + bytes.sum::<usize>() + 5);
+            assert_eq!(
+                read_sections(&sections),
+                Err(expected),
+                "{order:?}, {place}"
+            );
+        }
+    }
+}
+
+#[test]
+fn identifiers_are_followed_from_the_body_alone() {
+    let points = document(&within(b"run", &[null(b"points")]));
+    let other = Section::Body(document(&within(b"other", &[null(b"points")])));
+    // Not into the documents of a sequence, and not into its own.
+    let sections = [
+        with_identifier(b"s", &points),
+        other.clone(),
+        with_identifier(b"run.points", &points),
+        with_identifier(b"s.run", b""),
+    ];
+    assert!(read_sections(&sections).is_ok());
+    // Not from one identifier to another.
+    let sections = [
+        with_identifier(b"run", &points),
+        with_identifier(b"run.points", b""),
+        with_identifier(b"run.points.x", b""),
+        other,
+    ];
+    assert!(read_sections(&sections).is_ok());
+}
+
+#[test]
+fn a_path_is_refused_by_every_call_that_reads() {
+    let body = Section::Body(document(&within(b"run", &[null(b"points")])));
+    let sequences = [&b"a"[..], b"run.points", b"b"].map(|name| with_identifier(name, &EMPTY));
+    for place in 0..=3 {
+        let mut sections = sequences.to_vec();
+        sections.insert(place, body.clone());
+        for flags in [0, 1, 1 | 1 << 17] {
+            let all: Vec<&Section> = sections.iter().collect();
+            let message = drafted(&all, flags);
+            let refused = read_both(&HOUSE, &message).unwrap_err();
+            let body = if place <= 1 { body.bytes().len() } else { 0 };
+            let a = sequences[0].bytes().len();
+            assert_eq!(refused, Refusal::IdentifierClash(20 + body + a + 5));
+            let mut output = [0xAA; 200];
+            let other_calls = [
+                forward(&HOUSE, &message, &mut output),
+                append(&HOUSE, &message, b"c", b"", &mut output),
+                move_body(&HOUSE, &message, 0, &mut output),
+                move_body(&HOUSE, &message, 3, &mut output),
+                move_body(&HOUSE, &message, 4, &mut output),
+                forward(&HOUSE, &message, &mut []),
+            ];
+            assert!(other_calls.iter().all(|answer| *answer == Err(refused)));
+            assert_eq!(output, [0xAA; 200]);
+        }
+    }
+}
+
+#[test]
+fn append_refuses_a_path_behind_the_sections() {
+    let body = Section::Body(document(&within(b"run", &[null(b"points")])));
+    let sequences = [&b"a"[..], b"run.other", b"b"].map(|name| with_identifier(name, &EMPTY));
+    for count in 0..=3 {
+        for place in 0..=count {
+            let mut sections: Vec<&Section> = sequences[..count].iter().collect();
+            sections.insert(place, &body);
+            for flags in [0, 1, 1 | 1 << 17] {
+                let mut message = drafted(&sections, flags);
+                let end = message.len() - 4 * (flags & 1) as usize;
+                // Bytes behind the message do not count.
+                message.extend(b"run.points\0");
+                let mut output = [0xAA; 200];
+                for identifier in [&b"run"[..], b"run.points"] {
+                    assert_eq!(
+                        append(&HOUSE, &message, identifier, &EMPTY, &mut output),
+                        Err(Refusal::IdentifierClash(end + 5))
+                    );
+                    assert_eq!(output, [0xAA; 200]);
+                }
+                for identifier in [&b"run.point"[..], b"run.points.x", b"points", b"run."] {
+                    let view = append(&HOUSE, &message, identifier, &EMPTY, &mut output);
+                    let view = view.expect("accepted");
+                    assert_eq!(view.sequences().len(), count + 1);
+                    read_both(&HOUSE, &output).expect("accepted");
+                }
+            }
+        }
+    }
+}
+
+#[test]
+fn the_order_of_append_with_a_path() {
+    let message = with_body(document(&within(b"run", &[null(b"points")])));
+    let end = message.len();
+    let path = b"run.points";
+    let mut output = vec![0xAA; ROOM];
+    let huge = vec![0; MAX_MESSAGE];
+    let mut refusal = |edition: &Edition, id: &[u8], run: &[u8], room: usize| {
+        let refusal = append(edition, &message, id, run, &mut output[..room]).unwrap_err();
+        assert!(output.iter().all(|&byte| byte == 0xAA));
+        refusal
+    };
+    assert_eq!(
+        refusal(&BODIES_ONLY, path, b"", ROOM),
+        Refusal::UnknownKind(end)
+    );
+    assert_eq!(
+        refusal(&HOUSE, b"run.points\0", b"", ROOM),
+        Refusal::BadIdentifier(end + 5)
+    );
+    assert_eq!(
+        refusal(&HOUSE, path, &huge, ROOM),
+        Refusal::LengthOutOfRange(0)
+    );
+    let length = end + 6 + path.len();
+    assert_eq!(
+        refusal(&HOUSE, path, b"", length - 1),
+        Refusal::OutputShort(0)
+    );
+    assert_eq!(
+        refusal(&HOUSE, b"run.points.\xFF", b"", ROOM),
+        Refusal::TextNotUtf8(end + 5 + 11)
+    );
+    // The new documents come before it, to their last byte.
+    assert_eq!(
+        refusal(&HOUSE, path, &[9], ROOM),
+        Refusal::DocumentLength(length)
+    );
+    let open = [5, 0, 0, 0, 9];
+    assert_eq!(
+        refusal(&HOUSE, path, &[EMPTY, open].concat(), ROOM),
+        Refusal::DocumentLastByte(length + 9)
+    );
+    assert_eq!(
+        refusal(&HOUSE, path, &nulls(4_095), ROOM),
+        Refusal::TooManyElements(length + nulls(4_095).len() - 1 - 6)
+    );
+    assert_eq!(
+        refusal(&HOUSE, path, b"", length),
+        Refusal::IdentifierClash(end + 5)
+    );
+    assert_eq!(
+        refusal(&HOUSE, path, &EMPTY, ROOM),
+        Refusal::IdentifierClash(end + 5)
+    );
+    // A view that is too short comes last.
+    let mut view = [7; VIEW_NUMBERS - 1];
+    let result = ffi::append(HOUSE.bits, 1, &message, path, b"", &mut output, &mut view);
+    assert_eq!(result, 24 << 32 | (end + 5) as u64);
+    let result = ffi::append(
+        HOUSE.bits,
+        1,
+        &message,
+        b"run.p",
+        b"",
+        &mut output,
+        &mut view,
+    );
+    assert_eq!(result, 25 << 32);
+    assert_eq!(view, [7; VIEW_NUMBERS - 1]);
+}
+
+#[test]
+fn sixteen_sequences_come_before_a_path() {
+    let mut sections = vec![Section::Body(document(&within(b"run", &[null(b"points")])))];
+    sections.extend((0..16).map(|index| with_identifier(&[b'a' + index], b"")));
+    let message = Draft::new(sections.clone()).bytes();
+    let kind = message.len();
+    assert_eq!(
+        append(&HOUSE, &message, b"run.points", b"", &mut [0; 1_000]),
+        Err(Refusal::SeventeenthSequence(kind))
+    );
+    sections.push(with_identifier(b"run.points", b""));
+    assert_eq!(
+        read_sections(&sections),
+        Err(Refusal::SeventeenthSequence(kind))
+    );
+    // As the sixteenth it is refused for itself.
+    sections.remove(1);
+    assert_eq!(
+        read_sections(&sections),
+        Err(Refusal::IdentifierClash(kind - 7 + 5))
+    );
+}
+
+#[test]
+fn writing_knows_no_paths() {
+    // A name with dots beside the names that it could lead to.
+    let elements = [within(b"run", &[null(b"points")]), null(b"run.points")];
+    let body = document(&elements.concat());
+    for flags in [0, 1] {
+        let mut output = [0xAA; 100];
+        let view = write(&HOUSE, 7, 0, flags, &body, &mut output).expect("accepted");
+        assert_eq!(view.elements, 3);
+        assert_eq!(output[21..21 + body.len()], body);
+        read_both(&HOUSE, &output).expect("accepted");
     }
 }

@@ -1,4 +1,4 @@
--- Laws of elements: one that is read takes a byte or more, fits the bytes that it was read from, and is passed over by its size.
+-- Laws of elements: one that is read takes a byte or more, fits the bytes that it was read from, and is passed over by its size; of type 03 it has a document.
 -- Assumes nothing.
 use Prim.Native.Nat.{ℕ, _+_, _-_, _<_, _≤_}
 use mathlib.Core.Bool.{not}
@@ -8,14 +8,14 @@ use native.Mathlib.Omega.{arith}
 use lib.ListN.{length, getD, take, drop, length-drop}
 use lib.Dec.{eqb}
 use borrow.Author.Tests.{leb-false, lt-leb}
-use Rattle.wire.specs.Outcome.{ok}
-use Rattle.wire.specs.Bytes.{untilZero}
+use Rattle.wire.specs.Outcome.{ok, _>>=_}
+use Rattle.wire.specs.Bytes.{untilZero, oneOf}
 use Rattle.wire.specs.Walk.{Step, step, Reader}
 use Rattle.wire.proofs.Outcome.{ok-same, went, passed, pass, bound, go-on}
 use Rattle.wire.proofs.Meets.{met}
 use Rattle.wire.proofs.Walk.{Advances, step-size}
 use Rattle.utf8.specs.Text.{textAt}
-use Rattle.bson_values.specs.Value.{Value, plain, embedded, scoped}
+use Rattle.bson_values.specs.Value.{Value, plain, embedded, scoped, table, ruleIn}
 use Rattle.bson_elements.specs.Element.{maxElements, Head, head, inside, element, sizeOf, over, elementSize}
 use Rattle.bson_values.proofs.Value.{ValueWithin, type-fits}
 use Rattle.bson.proofs.Steady.{Frames}
@@ -60,6 +60,23 @@ element-advances document at xs count r e =
     bound (head at xs count) _ e λ h eh fh.
     bound (inside document _ _ _ _) _ fh λ i ei fi.
     omega (arith, head-read at xs count h eh .least, step-size fi)
+
+-- of type 03 it has a document behind its name
+head-document : (at : ℕ) (xs : List ℕ) (count : ℕ) (h : Head) → head at xs count ≡ ok h → getD xs 0 0 ≡ 0x03
+    → record { start = untilZero (drop 1 xs) + 2; value = embedded } ≡ h
+unfolding head textAt table ruleIn oneOf _>>=_
+head-document at xs count h e three =
+    let c = passed _ _ _ _ e in
+    let d = passed _ _ _ _ (rw three at (c .1)) in
+    ok-same (passed _ _ _ _ (d .1) .1)
+
+pub element-document : (document : Reader ℕ) (at : ℕ) (xs : List ℕ) (count : ℕ) (r : Step ℕ) → element document at xs count ≡ ok r → getD xs 0 0 ≡ 0x03
+    → (d : Step ℕ) × (document (at + (untilZero (drop 1 xs) + 2)) (drop (untilZero (drop 1 xs) + 2) xs) (count + 1) ≡ ok d)
+unfolding element inside
+element-document document at xs count r e three =
+    bound (head at xs count) _ e λ h eh fh.
+    bound (inside document (at + h .start) (drop (h .start) xs) (count + 1) (h .value)) _ fh λ d ed fd.
+    (d, rw (← head-document at xs count h eh three) at ed)
 
 module _ (document : Reader ℕ) (framed : Frames document) where
   inside-fits : (v : ℕ) (xs : List ℕ) (count : ℕ) (x : Value) (r : Step ℕ) → ValueWithin x xs → inside document v xs count x ≡ ok r → r .size ≤ length xs

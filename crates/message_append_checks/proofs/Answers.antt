@@ -12,10 +12,10 @@ use Rattle.wire.proofs.Outcome.{went, go-on, halt}
 use Rattle.utf8.specs.Text.{textAt}
 use Rattle.opmsg.specs.Layout.{checksumSize, sectionsEnd, sectionBytes}
 use Rattle.opmsg.specs.Sections.{maxSequences, maxSections, nextDocument}
-use Rattle.opmsg.specs.Names.{among, part, bodyNames, identifiers, texts}
+use Rattle.opmsg.specs.Names.{part}
 use Rattle.opmsg.specs.View.{sequenceCount}
 use Rattle.opmsg.specs.Read.{read}
-use Rattle.opmsg.specs.Inner.{Shows, Filled}
+use Rattle.opmsg.specs.Inner.{clashes, Shows, Filled}
 use Rattle.opmsg.specs.declared.Edition.{Edition}
 use Rattle.opmsg.specs.declared.Section.{Section}
 use Rattle.opmsg.specs.declared.View.{View}
@@ -114,8 +114,8 @@ module _ {e : Edition} {s name documents : List ℕ} {v : View} {end used number
 
   -- the answer of the search for the identifier
   module _ (t : Bool) (is : (qs : List Section) (sequences : ℕ) → Shows qs (shownBody v .start) (shownBody v .length) (v .entries) used sequences
-      → t ≡ among (texts (bodyNames (take (end - 20) (drop 20 s)) qs) ++ texts (identifiers (take (end - 20) (drop 20 s)) qs)) name) where
-    found : t ≡ among (texts (bodyNames (sectionBytes s) (reads h .sections .sections)) ++ texts (identifiers (sectionBytes s) (reads h .sections .sections))) name
+      → t ≡ clashes (take (end - 20) (drop 20 s)) qs name) where
+    found : t ≡ clashes (sectionBytes s) (reads h .sections .sections) name
     found = rw bytes at (is (reads h .sections .sections) (sequenceCount v) (rw (← k .behind) at (shows e s v h)))
 
     pub ready-taken : t ≡ true → append e s name documents room ≡ refused 24 (end + 5)

@@ -15,10 +15,9 @@ use Rattle.wire.proofs.Walk.{walk-append}
 use Rattle.opmsg.specs.Flags.{kept, knows}
 use Rattle.opmsg.specs.Layout.{maxLength, flagWord, checksumSize, sectionsEnd, sectionBytes}
 use Rattle.opmsg.specs.Sections.{maxSequences, maxSections, sequenceAt, bodyOf, sequencesOf, Run, nothing, sectionAt}
-use Rattle.opmsg.specs.Names.{among, bodyNames, identifiers, texts}
 use Rattle.opmsg.specs.View.{viewOf, sequenceCount}
 use Rattle.opmsg.specs.Read.{parts, content, read}
-use Rattle.opmsg.specs.Inner.{Shows}
+use Rattle.opmsg.specs.Inner.{clashes, Shows}
 use Rattle.opmsg.specs.declared.Edition.{Edition}
 use Rattle.opmsg.specs.declared.Range.{Range}
 use Rattle.opmsg.specs.declared.View.{View}
@@ -189,7 +188,7 @@ module _ (e : Edition) (s : List ℕ) (v : View) (h : read e s ≡ ok v) where
           )
 
       read-new : read e new
-          ≡ (runAt name documents at (r .sections .elements) >>= λ run. refuse 24 (at + 5) (among (texts (bodyNames (sectionBytes s) (r .sections .sections)) ++ texts (identifiers (sectionBytes s) (r .sections .sections))) name)
+          ≡ (runAt name documents at (r .sections .elements) >>= λ run. refuse 24 (at + 5) (clashes (sectionBytes s) (r .sections .sections) name)
           >>= λ _. ok (grown v at (length name) (length documents) (run .documents) (run .elements)))
       unfolding content
       read-new =
@@ -208,11 +207,11 @@ module _ (e : Edition) (s : List ℕ) (v : View) (h : read e s ≡ ok v) where
 
       module _ (run : Run) (w : runAt name documents (sectionsEnd s) (v .elements) ≡ ok run) where
         -- the identifier is taken
-        pub append-taken : among (texts (bodyNames (sectionBytes s) (r .sections .sections)) ++ texts (identifiers (sectionBytes s) (r .sections .sections))) name ≡ true
+        pub append-taken : clashes (sectionBytes s) (r .sections .sections) name ≡ true
             → append e s name documents room ≡ refused 24 (sectionsEnd s + 5)
         append-taken t = rw (stated-end s (r .sound)) (append-checks room ∙ go-on _ c ∙ halt _ (read-new ∙ go-on _ (same-run ∙ w) ∙ stop 24 _ _ t))
 
         -- or the sequence is added
-        pub append-grown : among (texts (bodyNames (sectionBytes s) (r .sections .sections)) ++ texts (identifiers (sectionBytes s) (r .sections .sections))) name ≡ false
+        pub append-grown : clashes (sectionBytes s) (r .sections .sections) name ≡ false
             → append e s name documents room ≡ ok (record { view = grown v (sectionsEnd s) (length name) (length documents) (run .documents) (run .elements); bytes = new })
         append-grown t = rw (stated-end s (r .sound)) (append-checks room ∙ go-on _ c ∙ go-on _ (read-new ∙ go-on _ (same-run ∙ w) ∙ pass 24 _ _ t))

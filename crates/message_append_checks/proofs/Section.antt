@@ -1,7 +1,7 @@
 -- A new section of kind 1: what reading makes of it behind other sections, and which names it brings.
 -- Assumes nothing.
 use Prim.Native.Nat.{ℕ, suc, _+_, _-_, _^_, _<_}
-use mathlib.Core.Bool.{Bool, true, false}
+use mathlib.Core.Bool.{Bool, true, false, _||_}
 use mathlib.Core.Path.{_≡_, refl, sym, ap, _∙_}
 use mathlib.Core.List.{List, [], _∷_, _++_, append-nil, append-assoc}
 use native.Mathlib.Omega.{arith}
@@ -18,7 +18,9 @@ use Rattle.wire.proofs.Walk.{walk-done, walk-step}
 use Rattle.utf8.specs.Text.{textAt}
 use Rattle.opmsg.specs.Flags.{knows}
 use Rattle.opmsg.specs.Sections.{maxSequences, sequenceAt, bodyOf, sequencesOf, Parts, Run, nextDocument, sequenceRun, sequenceNamed, sequenceSection, sectionOf, sectionAt}
-use Rattle.opmsg.specs.Names.{Name, among, distinct, part, bodyNames, identifiers, texts}
+use Rattle.opmsg.specs.Names.{Name, among, distinct, part, bodyElements, bodyNames, identifiers, texts}
+use Rattle.opmsg.specs.Dotted.{found}
+use Rattle.opmsg.specs.Inner.{clashes}
 use Rattle.opmsg.specs.Read.{distinctNames}
 use Rattle.opmsg.specs.declared.Edition.{Edition}
 use Rattle.opmsg.specs.declared.Section.{Section}
@@ -121,23 +123,27 @@ module _ (name documents : List ℕ) where
 
 -- ---- names
 
-refuse-end : (number place : ℕ) (t : Bool) → (refuse number place t >>= λ _. ok tt) ≡ refuse number place t
+-- two checks of one number and place are one
+refuse-either : (number place : ℕ) (a b : Bool) → (refuse number place a >>= λ _. refuse number place b >>= λ _. ok tt) ≡ refuse number place (a || b)
 unfolding _>>=_ refuse
-refuse-end number place true = refl
-refuse-end number place false = refl
+refuse-either number place true b = refl
+refuse-either number place false true = refl
+refuse-either number place false false = refl
 
--- a name behind others that differ: it is looked for among them and the texts of a base
-distinct-last : (number : ℕ) (base : List (List ℕ)) (ns : List Name) (n : Name) → distinct number base ns ≡ ok tt
-    → distinct number base (ns ++ (n ∷ [])) ≡ refuse number (n .place) (among (base ++ texts ns) (n .text))
+-- a name behind others that differ: it is looked for among them and the texts of a base, and is tested
+distinct-last : (number : ℕ) (test : List ℕ → Bool) (base : List (List ℕ)) (ns : List Name) (n : Name) → distinct number test base ns ≡ ok tt
+    → distinct number test base (ns ++ (n ∷ [])) ≡ refuse number (n .place) (among (base ++ texts ns) (n .text) || test (n .text))
 unfolding distinct texts
-distinct-last number base [] n h = rw (append-nil base) (refuse-end number (n .place) (among base (n .text)))
-distinct-last number base (m ∷ ns) n h =
+distinct-last number test base [] n h = rw (append-nil base) (refuse-either number (n .place) (among base (n .text)) (test (n .text)))
+distinct-last number test base (m ∷ ns) n h =
     let c = passed _ _ _ _ h in
+    let d = passed _ _ _ _ (c .1) in
     let t = n .text in
     let same : among (m .text ∷ (base ++ texts ns)) t ≡ among (base ++ (m .text ∷ texts ns)) t =
     among-append (m .text ∷ base) (texts ns) t
     ∙ rw (← among-last base (m .text) t, ← among-append (base ++ (m .text ∷ [])) (texts ns) t, append-assoc base (m .text ∷ []) (texts ns)) in
-    pass number (m .place) _ (c .0) ∙ distinct-last number (m .text ∷ base) ns n (c .1) ∙ ap (refuse number (n .place)) same
+    pass number (m .place) _ (c .0) ∙ pass number (m .place) _ (d .0) ∙ distinct-last number test (m .text ∷ base) ns n (d .1)
+    ∙ ap (λ (b : Bool). refuse number (n .place) (b || test t)) same
 
 module _ (xs : List ℕ) (qs : List Section) (held : Held xs (length xs) qs) (d : Differ xs qs) (body : eqb (bodyOf qs .start) 0 ≡ false) (name documents : List ℕ) (number : ℕ) where
   abbrev at : ℕ
@@ -152,9 +158,12 @@ module _ (xs : List ℕ) (qs : List Section) (held : Held xs (length xs) qs) (d 
   same-body : bodyOf (qs ++ (new ∷ [])) ≡ bodyOf qs
   same-body = body-sequence qs _ _ _
 
+  body-elements : bodyElements more (qs ++ (new ∷ [])) ≡ bodyElements xs qs
+  body-elements = rw (same-body, front-part xs (sequenceBytes name documents) (bodyOf qs .start + 4) (bodyOf qs .length - 5) (held .inside))
+
   body-names : bodyNames more (qs ++ (new ∷ [])) ≡ bodyNames xs qs
   unfolding bodyNames
-  body-names = rw (same-body, front-part xs (sequenceBytes name documents) (bodyOf qs .start + 4) (bodyOf qs .length - 5) (held .inside))
+  body-names = rw (body-elements, same-body)
 
   new-name : part more (at + 5) (length name) ≡ name
   unfolding part
@@ -167,8 +176,8 @@ module _ (xs : List ℕ) (qs : List Section) (held : Held xs (length xs) qs) (d 
   all-identifiers = identifiers-append more qs (new ∷ []) ∙ rw (front-identifiers xs (sequenceBytes name documents) qs (held .names), new-name)
 
   -- of the new names the identifier alone can be refused
-  pub names-checked : (end : ℕ) → distinctNames end more (qs ++ (new ∷ [])) ≡ refuse 24 (at + 5) (among (texts (bodyNames xs qs) ++ texts (identifiers xs qs)) name)
+  pub names-checked : (end : ℕ) → distinctNames end more (qs ++ (new ∷ [])) ≡ refuse 24 (at + 5) (clashes xs qs name)
   unfolding distinctNames _>>=_ refuse
   names-checked end =
-      rw (distinctNames, same-body, body, body-names, d .names, all-identifiers)
-      (distinct-last 24 (texts (bodyNames xs qs)) (identifiers xs qs) (record { place = at + 5; text = name }) (d .all))
+      rw (distinctNames, body-names, body-elements, same-body, body, d .names, all-identifiers)
+      (distinct-last 24 (found (bodyElements xs qs)) (texts (bodyNames xs qs)) (identifiers xs qs) (record { place = at + 5; text = name }) (d .all))

@@ -7,16 +7,16 @@ use opmsg::Verdict;
 use opmsg::View;
 use opmsg_documents::Counted;
 use opmsg_flags::checksum_size;
-use opmsg_names::identifiers::taken;
+use opmsg_identifiers::taken;
 use opmsg_view::body;
 use opmsg_view::sequence_count;
 ghost use mathlib.Core.Path.{_≡_};
-ghost use mathlib.Core.List.{List, _++_};
+ghost use mathlib.Core.List.{List};
 ghost use Prim.Native.Nat.{ℕ, _+_, _-_, _≤_};
 ghost use lib.ListN.{length, take, drop};
 ghost use Rattle.opmsg.specs.declared.Section.{Section};
-ghost use Rattle.opmsg.specs.Names.{among, part, bodyNames, identifiers, texts};
-ghost use Rattle.opmsg.specs.Inner.{Shows, Filled};
+ghost use Rattle.opmsg.specs.Names.{part};
+ghost use Rattle.opmsg.specs.Inner.{clashes, Shows, Filled};
 ghost use Rattle.wire.specs.Outcome.{ok};
 ghost use Rattle.opmsg.specs.Read.{read};
 ghost use Rattle.message_append_checks.specs.Inner.{shownBody, Examined};
@@ -36,12 +36,12 @@ pub enum Found {
     },
 }
 
-// The identifier is a name of the message, whose sections end at a place and are shown by so many entries.
+// The identifier clashes with a name of the message, whose sections end at a place and are shown by so many entries.
 fn repeated(s: &[u8], v: View, end: usize, used: usize, identifier: &[u8]) -> bool
     requires { ⌜ (20 ≤ end) × (end ≤ length (now s)) × (used ≤ 17)
         × Filled (part (take (end - 20) (drop 20 (now s))) (shownBody v .start + 4) (shownBody v .length - 5)) ⌝ }
     ensures { λ r. ⌜ ((qs : List Section) (sequences : ℕ) → Shows qs (shownBody v .start) (shownBody v .length) (v .entries) used sequences
-        → r ≡ among (texts (bodyNames (take (end - 20) (drop 20 (now (s .entry)))) qs) ++ texts (identifiers (take (end - 20) (drop 20 (now (s .entry)))) qs)) (now (identifier .entry))) ⌝ }
+        → r ≡ clashes (take (end - 20) (drop 20 (now (s .entry)))) qs (now (identifier .entry))) ⌝ }
 {
     let xs = &s[20..end];
     let range = body(v);

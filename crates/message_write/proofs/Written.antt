@@ -21,7 +21,7 @@ use Rattle.bson.proofs.Frame.{document-framed}
 use Rattle.opmsg.specs.Flags.{allKnown, knows}
 use Rattle.opmsg.specs.Layout.{maxLength, flagWord}
 use Rattle.opmsg.specs.Sections.{bodyAt, bodyOf, Parts, nothing, bodySection, sectionOf, sectionAt}
-use Rattle.opmsg.specs.Names.{distinct, elementNames, part, bodyNames, identifiers}
+use Rattle.opmsg.specs.Names.{never, distinct, elementNames, part, bodyNames, identifiers}
 use Rattle.opmsg.specs.View.{viewOf}
 use Rattle.opmsg.specs.Read.{parts, distinctNames, content, read}
 use Rattle.opmsg.specs.declared.Edition.{Edition}
@@ -55,7 +55,7 @@ body-walked e s turns w =
     go-on _ refl ∙ rw none (walk-done (sectionAt e) turns _ (alone d)))
 
 -- the body's names are all there are
-names-alone : (end : ℕ) (s : List ℕ) (d : Step ℕ) → distinctNames end (0 ∷ s) (alone d .sections) ≡ (distinct 23 [] (elementNames (d .size) 25 (take (d .size - 5) (drop 4 s))) >>= λ _. ok tt)
+names-alone : (end : ℕ) (s : List ℕ) (d : Step ℕ) → distinctNames end (0 ∷ s) (alone d .sections) ≡ (distinct 23 never [] (elementNames (d .size) 25 (take (d .size - 5) (drop 4 s))) >>= λ _. ok tt)
 unfolding distinctNames bodyOf bodyNames part identifiers distinct _>>=_ refuse
 names-alone end s d = refl
 

@@ -11,7 +11,7 @@ use Rattle.wire.proofs.Outcome.{go-on, halt}
 use Rattle.bson.specs.Document.{documentAt, maxLevels, told}
 use Rattle.bson.specs.declared.Walk.{Walk}
 use Rattle.opmsg.specs.Inner.{judged, Filled}
-use Rattle.opmsg.specs.Names.{distinct, elementNames}
+use Rattle.opmsg.specs.Names.{never, distinct, elementNames}
 use Rattle.opmsg.specs.declared.Verdict.{Verdict}
 use Rattle.opmsg_body_names.proofs.Elements.{names-turns}
 use Rattle.opmsg_documents.proofs.Fill.{document-filled}
@@ -30,7 +30,7 @@ module _ (s : List ℕ) (w : Walk) (is : told w ≡ documentAt maxLevels 21 s 0)
     pub body-filled : Filled (take (size - 1 - 4) (drop 4 s))
     body-filled = rw inner (document-filled maxLevels 21 s 0 (record { size = size; state = count }) (sym is ∙ ap told h))
 
-    pub body-named : (v : Verdict) → judged v ≡ distinct 23 [] (elementNames (length (take (size - 1 - 4) (drop 4 s))) 25 (take (size - 1 - 4) (drop 4 s)))
+    pub body-named : (v : Verdict) → judged v ≡ distinct 23 never [] (elementNames (length (take (size - 1 - 4) (drop 4 s))) 25 (take (size - 1 - 4) (drop 4 s)))
         → bodyExamined s ≡ (judged v >>= λ _. step size count)
     unfolding bodyExamined
     body-named v k =

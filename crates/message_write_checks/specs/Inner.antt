@@ -12,7 +12,7 @@ use Rattle.wire.specs.Walk.{Step}
 use Rattle.bson.specs.Document.{documentAt, maxLevels}
 use Rattle.opmsg.specs.Flags.{allKnown}
 use Rattle.opmsg.specs.Layout.{maxLength}
-use Rattle.opmsg.specs.Names.{distinct, elementNames}
+use Rattle.opmsg.specs.Names.{never, distinct, elementNames}
 use Rattle.message.specs.Message.{wholeLength}
 use Rattle.message.specs.Write.{write}
 use Rattle.opmsg.specs.declared.Edition.{Edition}
@@ -36,5 +36,5 @@ Checked e flags body room (Refused number place) = (requestId responseTo : ℤ) 
 unfoldable pub bodyExamined : List ℕ → Outcome (Step ℕ)
 bodyExamined body = do
   d ← documentAt maxLevels 21 body 0
-  _ ← distinct 23 [] (elementNames (d .size) 25 (take (d .size - 5) (drop 4 body)))
+  _ ← distinct 23 never [] (elementNames (d .size) 25 (take (d .size - 5) (drop 4 body)))
   ok d

@@ -18,7 +18,8 @@ use Rattle.bson.specs.Document.{maxLevels}
 use Rattle.bson.proofs.Bounds.{Fault, UpTo, document-bounded}
 use Rattle.opmsg.specs.Layout.{maxLength, messageLength, sectionsEnd, sectionBytes}
 use Rattle.opmsg.specs.Sections.{bodyOf, Parts, nothing, Run, nextDocument, bodySection, sequenceRun, sequenceNamed, sequenceSection, sectionOf, sectionAt}
-use Rattle.opmsg.specs.Names.{Name, distinct, elementNames, part, bodyNames, identifiers, texts}
+use Rattle.opmsg.specs.Names.{Name, never, distinct, elementNames, part, bodyElements, bodyNames, identifiers, texts}
+use Rattle.opmsg.specs.Dotted.{found}
 use Rattle.opmsg.specs.Read.{header, flagged, parts, distinctNames, content, read}
 use Rattle.opmsg.specs.declared.Edition.{Edition}
 use Rattle.opmsg.specs.declared.Section.{Section}
@@ -106,10 +107,13 @@ module _ (to : ℕ) where
   Placed [] = Unit {0}
   Placed (n ∷ ns) = (n .place ≤ to) × Placed ns
 
-  distinct-bounded : (number : ℕ) (texts : List (List ℕ)) (ns : List Name) → 1 ≤ number → number < 26 → Placed ns → UpTo to (distinct number texts ns)
+  distinct-bounded : (number : ℕ) (test : List ℕ → Bool) (texts : List (List ℕ)) (ns : List Name) → 1 ≤ number → number < 26 → Placed ns → UpTo to (distinct number test texts ns)
   unfolding distinct
-  distinct-bounded number texts [] l m h = good tt
-  distinct-bounded number texts (n ∷ ns) l m h = check number (n .place) _ _ (omega (arith, h .0)) λ _. distinct-bounded number (n .text ∷ texts) ns l m (h .1)
+  distinct-bounded number test texts [] l m h = good tt
+  distinct-bounded number test texts (n ∷ ns) l m h =
+      check number (n .place) _ _ (omega (arith, h .0)) λ _.
+      check number (n .place) _ _ (omega (arith, h .0)) λ _.
+      distinct-bounded number test (n .text ∷ texts) ns l m (h .1)
 
   names-placed : (turns at : ℕ) (xs : List ℕ) → (0 < length xs → at + length xs < to) → Placed (elementNames turns at xs)
   names-placed zero at xs l = unfold elementNames in tt
@@ -145,9 +149,9 @@ names-bounded to end xs qs h l =
     let size = bodyOf qs .length - 5 in
     let fits = length-take size (drop (place - 20) xs) in
     check 22 end _ _ (omega arith) λ _.
-    then _ (distinct-bounded far 23 [] _ (omega arith) (omega arith)
+    then _ (distinct-bounded far 23 never [] _ (omega arith) (omega arith)
     (names-placed far (bodyOf qs .length) place (part xs place size) (λ _. omega (arith, body-stands to qs h, fits, length-drop (place - 20) xs)))) λ _ _ _.
-    wider to far (omega arith) (distinct-bounded to 24 (texts (bodyNames xs qs)) (identifiers xs qs) (omega arith) (omega arith) (identifiers-placed to xs qs h))
+    wider to far (omega arith) (distinct-bounded to 24 (found (bodyElements xs qs)) (texts (bodyNames xs qs)) (identifiers xs qs) (omega arith) (omega arith) (identifiers-placed to xs qs h))
 
 -- ---- a whole message
 

@@ -1,18 +1,18 @@
 -- Names that differ in a message differ in a front of its sections. The names of elements, one by one.
 -- Assumes nothing.
 use Prim.Native.Nat.{ℕ, zero, suc, _+_, _-_, _<_, _≤_}
-use mathlib.Core.Path.{_≡_, refl, sym, ap, _∙_}
+use mathlib.Core.Bool.{Bool}
+use mathlib.Core.Path.{_≡_, refl, ap, _∙_}
 use mathlib.Core.List.{List, [], _∷_, _++_}
 use native.Mathlib.Omega.{arith}
-use lib.ListN.{length, take, drop, length-drop}
+use lib.ListN.{length, drop, length-drop}
 use lib.Seq.{take-append-le, drop-append-le}
 use borrow.Author.Tests.{ne-eqb}
-use Rattle.wire.specs.Bytes.{untilZero}
 use Rattle.wire.specs.Outcome.{ok}
 use Rattle.wire.proofs.Outcome.{passed, pass}
 use Rattle.bson_elements.specs.Element.{elementSize}
 use Rattle.opmsg.specs.Sections.{bodyOf}
-use Rattle.opmsg.specs.Names.{Name, distinct, elementNames, part, bodyNames, identifiers}
+use Rattle.opmsg.specs.Names.{Name, distinct, nameText, elementNames, part, bodyNames, identifiers}
 use Rattle.opmsg.specs.declared.Section.{Section}
 use Rattle.opmsg.specs.declared.Section.the-variants.{None, Body, Sequence}
 use Rattle.opmsg.proofs.Accepted.{Differ}
@@ -58,12 +58,14 @@ identifiers-append xs (None ∷ qs) rs = identifiers-append xs qs rs
 identifiers-append xs (Body range ∷ qs) rs = identifiers-append xs qs rs
 identifiers-append xs (Sequence identifier documents number ∷ qs) rs = ap (λ (l : List Name). record { place = identifier .start; text = part xs (identifier .start) (identifier .length) } ∷ l) (identifiers-append xs qs rs)
 
-front-distinct : (number : ℕ) (earlier : List (List ℕ)) (ns ms : List Name) → distinct number earlier (ns ++ ms) ≡ ok tt → distinct number earlier ns ≡ ok tt
+front-distinct : (number : ℕ) (test : List ℕ → Bool) (earlier : List (List ℕ)) (ns ms : List Name)
+    → distinct number test earlier (ns ++ ms) ≡ ok tt → distinct number test earlier ns ≡ ok tt
 unfolding distinct
-front-distinct number earlier [] ms h = refl
-front-distinct number earlier (n ∷ ns) ms h =
+front-distinct number test earlier [] ms h = refl
+front-distinct number test earlier (n ∷ ns) ms h =
     let c = passed _ _ _ _ h in
-    pass number (n .place) _ (c .0) ∙ front-distinct number (n .text ∷ earlier) ns ms (c .1)
+    let d = passed _ _ _ _ (c .1) in
+    pass number (n .place) _ (c .0) ∙ pass number (n .place) _ (d .0) ∙ front-distinct number test (n .text ∷ earlier) ns ms (d .1)
 
 -- in a front ys of the sections' bytes, with the body and all of qs in it
 pub front-differ : (ys zs : List ℕ) (qs rs : List Section) → 0 < bodyOf qs .start → (bodyOf qs .start + 4 - 20) + (bodyOf qs .length - 5) ≤ length ys → NamesWithin (length ys) qs
@@ -75,12 +77,12 @@ front-differ ys zs qs rs some inside k d =
     let i : identifiers (ys ++ zs) (qs ++ rs) ≡ identifiers ys qs ++ identifiers (ys ++ zs) rs = identifiers-append (ys ++ zs) qs rs ∙ rw (front-identifiers ys zs qs k) in
     record {
       names = rw (first, p) at (d .names);
-      all = front-distinct 24 _ (identifiers ys qs) _ (rw (first, p, i) at (d .all));
+      all = front-distinct 24 _ _ (identifiers ys qs) _ (rw (first, p, i) at (d .all));
     }
 
 -- one turn of listing the names of elements
 pub names-step : (turns at : ℕ) (xs : List ℕ) → 0 < length xs
-    → elementNames (suc turns) at xs ≡ record { place = at + 1; text = take (untilZero (drop 1 xs)) (drop 1 xs) } ∷ elementNames turns (at + elementSize xs) (drop (elementSize xs) xs)
+    → elementNames (suc turns) at xs ≡ record { place = at + 1; text = nameText xs } ∷ elementNames turns (at + elementSize xs) (drop (elementSize xs) xs)
 unfolding elementNames
 names-step turns at xs l = rw (elementNames, ne-eqb (length xs) 0 (λ e. omega arith))
 

@@ -8,3 +8,4 @@ pub mod Entries
 pub mod Differ
 pub mod Answered
 pub mod Bounds
+pub mod DottedExamples

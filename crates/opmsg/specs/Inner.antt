@@ -1,12 +1,15 @@
 -- What the answers of the readers' parts stand for in document 01's terms, and what is kept of sections.
 -- Assumes nothing: these are definitions.
 use Prim.Native.Nat.{ℕ, _<_, _≤_}
-use mathlib.Core.List.{List, [], map}
+use mathlib.Core.Bool.{Bool, _||_}
+use mathlib.Core.List.{List, [], map, _++_}
 use mathlib.Core.Path.{_≡_}
-use lib.ListN.{take, drop}
+use lib.ListN.{getD, take, drop}
 use Rattle.wire.specs.Outcome.{Outcome, ok, refused}
 use Rattle.bson_elements.specs.Element.{elementSize}
 use Rattle.opmsg.specs.Sections.{bodyOf, sequencesOf}
+use Rattle.opmsg.specs.Names.{among, bodyElements, bodyNames, identifiers, texts}
+use Rattle.opmsg.specs.Dotted.{elementsWithin, found}
 use Rattle.opmsg.specs.View.{padded}
 use Rattle.opmsg.specs.declared.Section.{Section}
 use Rattle.opmsg.specs.declared.Entry.{Entry}
@@ -18,10 +21,15 @@ abbrev pub judged : Verdict → Outcome (Unit {0})
 judged Accepted = ok tt
 judged (Refused number place) = refused number place
 
--- bytes that elements fill, one after the other
+-- bytes that elements fill, one after the other, and so within each document of type 03
 pub data Filled : List ℕ → Type 0 where
   none : Filled []
-  more : {xs : List ℕ} → 0 < elementSize xs → elementSize xs ≤ lib.ListN.length xs → Filled (drop (elementSize xs) xs) → Filled xs
+  more : {xs : List ℕ} → 0 < elementSize xs → elementSize xs ≤ lib.ListN.length xs → (getD xs 0 0 ≡ 0x03 → Filled (elementsWithin xs))
+      → Filled (drop (elementSize xs) xs) → Filled xs
+
+-- a text is one of the body's names or of the identifiers, or leads to a name in the body
+abbrev pub clashes : (xs : List ℕ) → List Section → (text : List ℕ) → Bool
+clashes xs qs text = among (texts (bodyNames xs qs) ++ texts (identifiers xs qs)) text || found (bodyElements xs qs) text
 
 -- what the first n entries of a list say
 abbrev pub firstSections : ℕ → List Entry → List Section

@@ -2,6 +2,7 @@ pub mod Flags
 pub mod Layout
 pub mod Sections
 pub mod Names
+pub mod Dotted
 pub mod View
 pub mod Read
 pub mod Inner

@@ -1,7 +1,7 @@
 -- Laws of names that must differ: marks that tell a text from those before, and one turn of `distinct`.
 -- Assumes nothing.
 use Prim.Native.Nat.{ℕ, _+_, _/_, _%_, _^_, _<_}
-use mathlib.Core.Bool.{Bool, true, false, _||_}
+use mathlib.Core.Bool.{Bool, true, false, _||_, or-true}
 use mathlib.Core.Path.{_≡_, refl, sym, _∙_, ap}
 use mathlib.Core.List.{List, [], _∷_, _++_, append-nil, append-assoc}
 use native.Mathlib.Omega.{arith}
@@ -17,7 +17,7 @@ use Rattle.opmsg_body_names.specs.Inner.{slotOf, marked, marking, Marks}
 use Rattle.opmsg.specs.declared.Verdict.{Verdict}
 use Rattle.opmsg.specs.declared.Verdict.the-variants.{Accepted, Refused}
 use Rattle.opmsg_body_names.proofs.Marks.{holds-self, holds-more}
-use Rattle.opmsg_body_names.proofs.Texts.{not-both, same-text, among-cons, among-last, take-whole, drop-next, texts-next}
+use Rattle.opmsg_body_names.proofs.Texts.{not-both, same-text, among-cons, among-append, among-last, take-whole, drop-next, texts-next}
 
 -- a verdict is not both
 pub not-accepted {ℓ} : {A : Type ℓ} {v : Verdict} {number place : ℕ} → v ≡ Refused number place → v ≡ Accepted → A
@@ -70,42 +70,46 @@ mark {ts} {marks} x m =
     go t true e h = rw (same-text t x e) (mark-made marks (slotOf x) inside)
     go t false e h = mark-stays marks (slotOf x) (slotOf t) inside (m .shows t (rw e at h))
 
--- marks serve other texts among which the same texts are
-marks-same : {ts us : List (List ℕ)} {marks : List ℕ} → ((t : List ℕ) → among ts t ≡ among us t) → Marks ts marks → Marks us marks
-marks-same e m = record { size = m .size; shows = λ t h. m .shows t (e t ∙ h) }
+-- marks serve other texts that are all among these
+marks-fewer : {ts us : List (List ℕ)} {marks : List ℕ} → ((t : List ℕ) → among us t ≡ true → among ts t ≡ true) → Marks ts marks → Marks us marks
+marks-fewer e m = record { size = m .size; shows = λ t h. m .shows t (e t h) }
 
-no-mark : {ts : List (List ℕ)} {marks : List ℕ} (t : List ℕ) → Marks ts marks → marked marks (slotOf t) ≡ false → among ts t ≡ false
+pub no-mark : {ts : List (List ℕ)} {marks : List ℕ} (t : List ℕ) → Marks ts marks → marked marks (slotOf t) ≡ false → among ts t ≡ false
 no-mark {ts} t m h = go (among ts t) refl
   where
     go : (b : Bool) → among ts t ≡ b → among ts t ≡ false
     go true e = not-both h (m .shows t e)
     go false e = e
 
--- ---- the first k of the names ns differ from each other and from the texts of a base
+-- ---- the first k of the names ns pass no test, and differ from each other and from the texts of a base
 
-pub record Met (number : ℕ) (base : List (List ℕ)) (ns : List Name) (k : ℕ) (marks : List ℕ) : Type 0 where
+pub record Met (number : ℕ) (test : List ℕ → Bool) (base : List (List ℕ)) (ns : List Name) (k : ℕ) (marks : List ℕ) : Type 0 where
   pub before : List (List ℕ)
-  pub same : distinct number base ns ≡ distinct number before (drop k ns)
+  pub same : distinct number test base ns ≡ distinct number test before (drop k ns)
   pub those : (t : List ℕ) → among before t ≡ among (base ++ texts (take k ns)) t
   pub marked : Marks before marks
 
-module _ (number : ℕ) (base : List (List ℕ)) (ns : List Name) where
-  pub met-none : {marks : List ℕ} → Marks base marks → Met number base ns 0 marks
+module _ (number : ℕ) (test : List ℕ → Bool) (base : List (List ℕ)) (ns : List Name) where
+  pub met-none : {marks : List ℕ} → Marks base marks → Met number test base ns 0 marks
   unfolding texts
   met-none m = record { before = base; same = refl; those = λ t. rw (append-nil base); marked = m }
 
-  module _ (k : ℕ) {marks : List ℕ} (m : Met number base ns k marks) where
+  module _ (k : ℕ) {marks : List ℕ} (m : Met number test base ns k marks) where
     -- a text without a mark is new
     pub met-unmarked : (t : List ℕ) → marked marks (slotOf t) ≡ false → among (base ++ texts (take k ns)) t ≡ false
     met-unmarked t h = sym (m .those t) ∙ no-mark t (m .marked) h
 
+    -- the marks, and one more, serve the base
+    pub met-base : (x : List ℕ) → Marks base (marking marks (slotOf x))
+    met-base x = marks-fewer (λ t h. among-cons x (m .before) t ∙ rw (m .those t, among-append base (texts (take k ns)) t, h) (or-true (sameText t x))) (mark x (m .marked))
+
     module _ (n : Name) (r : List Name) (next : drop k ns ≡ n ∷ r) where
       -- the next name is new
-      pub met-next : among (base ++ texts (take k ns)) (n .text) ≡ false → Met number base ns (k + 1) (marking marks (slotOf (n .text)))
+      pub met-next : among (base ++ texts (take k ns)) (n .text) ≡ false → test (n .text) ≡ false → Met number test base ns (k + 1) (marking marks (slotOf (n .text)))
       unfolding distinct
-      met-next h = record {
+      met-next h t = record {
         before = n .text ∷ m .before;
-        same = m .same ∙ rw (next, drop-next k ns next) (pass number (n .place) _ (m .those (n .text) ∙ h));
+        same = m .same ∙ rw (next, drop-next k ns next) (pass number (n .place) _ (m .those (n .text) ∙ h) ∙ pass number (n .place) _ t);
         those = λ t.
             among-cons (n .text) (m .before) t
             ∙ ap (λ (b : Bool). sameText t (n .text) || b) (m .those t)
@@ -116,14 +120,19 @@ module _ (number : ℕ) (base : List (List ℕ)) (ns : List Name) where
       }
 
       -- the next name is there already
-      pub met-again : among (base ++ texts (take k ns)) (n .text) ≡ true → distinct number base ns ≡ refused number (n .place)
+      pub met-again : among (base ++ texts (take k ns)) (n .text) ≡ true → distinct number test base ns ≡ refused number (n .place)
       unfolding distinct
       met-again h = m .same ∙ rw next (stop number (n .place) _ (m .those (n .text) ∙ h))
 
+      -- the next name is new, and passes the test
+      pub met-passing : among (base ++ texts (take k ns)) (n .text) ≡ false → test (n .text) ≡ true → distinct number test base ns ≡ refused number (n .place)
+      unfolding distinct
+      met-passing h t = m .same ∙ rw next (pass number (n .place) _ (m .those (n .text) ∙ h) ∙ stop number (n .place) _ t)
+
     -- no name is left
-    pub met-all : drop k ns ≡ [] → distinct number base ns ≡ ok tt
+    pub met-all : drop k ns ≡ [] → distinct number test base ns ≡ ok tt
     unfolding distinct
     met-all e = m .same ∙ rw e
 
     pub met-marks : drop k ns ≡ [] → Marks (base ++ texts ns) marks
-    met-marks e = marks-same (λ t. m .those t ∙ rw (take-whole k ns e)) (m .marked)
+    met-marks e = marks-fewer (λ t h. m .those t ∙ rw (take-whole k ns e) h) (m .marked)

@@ -9,12 +9,12 @@ use lib.ListN.{length, take, drop, length-drop, drop-of-length-le}
 use lib.Seq.{drop-drop, take-nil}
 use Rattle.wire.specs.Outcome.{ok, refused}
 use Rattle.bson_elements.specs.Element.{elementSize}
-use Rattle.opmsg.specs.Names.{sameText, among, distinct, elementNames, texts}
+use Rattle.opmsg.specs.Names.{sameText, among, never, distinct, elementNames, texts, nameText, namesOf}
 use Rattle.opmsg.specs.Inner.{Filled, none}
 pub use Rattle.opmsg_element_names.proofs.Names.{names-turns, names-of, all-names}
 use Rattle.opmsg_element_names.proofs.Names.{filled-next, nameAt, names-end, names-next}
 use Rattle.opmsg_element_names.specs.Inner.{Read}
-use Rattle.opmsg_body_names.specs.Inner.{nameText, namesOf, slotOf, marked, marking, Marks}
+use Rattle.opmsg_body_names.specs.Inner.{slotOf, marked, marking, Marks}
 use Rattle.opmsg_body_names.proofs.Texts.{same-text, among-cons, take-cons, drop-next, texts-take}
 use Rattle.opmsg_body_names.proofs.Distinct.{slot-small, mark-made, mark-stays, marking-size, marks-none, Met, met-none, met-unmarked, met-next, met-again, met-all, met-marks}
 
@@ -100,13 +100,13 @@ pub record NamesPassed (at : ℕ) (xs : List ℕ) (i k : ℕ) (marks : List ℕ)
   pub whole : Filled xs
   pub few : k ≤ i
   pub left : drop k (elementNames (length xs) at xs) ≡ elementNames turns (at + i) (drop i xs)
-  pub met : Met 23 [] (elementNames (length xs) at xs) k marks
+  pub met : Met 23 never [] (elementNames (length xs) at xs) k marks
 
 module _ (at : ℕ) (xs : List ℕ) where
   pub passed-none : Filled xs → (marks : List ℕ) → length marks ≡ 32 → NamesPassed at xs 0 0 marks
   passed-none f marks h =
       let e : at + 0 ≡ at = omega arith in
-      record { turns = length xs; reached = reached-none xs f; whole = f; few = omega arith; left = rw e; met = met-none 23 [] _ (marks-none marks h) }
+      record { turns = length xs; reached = reached-none xs f; whole = f; few = omega arith; left = rw e; met = met-none 23 never [] _ (marks-none marks h) }
 
   module _ (i k : ℕ) {marks : List ℕ} (l : NamesPassed at xs i k marks) where
     before : texts (take k (elementNames (length xs) at xs)) ≡ take k (namesOf xs)
@@ -114,7 +114,7 @@ module _ (at : ℕ) (xs : List ℕ) where
 
     -- a name without a mark is new
     pub passed-unmarked : (t : List ℕ) → marked marks (slotOf t) ≡ false → among (take k (namesOf xs)) t ≡ false
-    passed-unmarked t h = rw before at (met-unmarked 23 [] (elementNames (length xs) at xs) k (l .met) t h)
+    passed-unmarked t h = rw before at (met-unmarked 23 never [] (elementNames (length xs) at xs) k (l .met) t h)
 
     module _ (inside : i < length xs) where
       name : (end : ℕ) → end ≡ i + elementSize (drop i xs)
@@ -122,8 +122,8 @@ module _ (at : ℕ) (xs : List ℕ) where
       name end e = l .left ∙ reached-names xs i (l .turns) (l .reached) inside end e (at + i)
 
       -- the next name is there already
-      pub passed-again : among (take k (namesOf xs)) (nameText (drop i xs)) ≡ true → distinct 23 [] (elementNames (length xs) at xs) ≡ refused 23 (at + i + 1)
-      passed-again h = met-again 23 [] (elementNames (length xs) at xs) k (l .met) _ _ (name _ refl) (rw before h)
+      pub passed-again : among (take k (namesOf xs)) (nameText (drop i xs)) ≡ true → distinct 23 never [] (elementNames (length xs) at xs) ≡ refused 23 (at + i + 1)
+      passed-again h = met-again 23 never [] (elementNames (length xs) at xs) k (l .met) _ _ (name _ refl) (rw before h)
 
       -- the next name is new
       pub passed-next : (end : ℕ) → end ≡ i + elementSize (drop i xs) → among (take k (namesOf xs)) (nameText (drop i xs)) ≡ false
@@ -137,7 +137,7 @@ module _ (at : ℕ) (xs : List ℕ) where
             whole = l .whole;
             few = omega (arith, l .few, w .0);
             left = drop-next k (elementNames (length xs) at xs) (name end e) ∙ rw place;
-            met = met-next 23 [] (elementNames (length xs) at xs) k (l .met) _ _ (name end e) (rw before h);
+            met = met-next 23 never [] (elementNames (length xs) at xs) k (l .met) _ _ (name end e) (rw before h) refl;
           }
 
     -- no element is left
@@ -145,11 +145,11 @@ module _ (at : ℕ) (xs : List ℕ) where
       done : drop k (elementNames (length xs) at xs) ≡ []
       done = l .left ∙ reached-end xs i (l .turns) (l .reached) (at + i) end
 
-      pub passed-all : distinct 23 [] (elementNames (length xs) at xs) ≡ ok tt
-      passed-all = met-all 23 [] (elementNames (length xs) at xs) k (l .met) done
+      pub passed-all : distinct 23 never [] (elementNames (length xs) at xs) ≡ ok tt
+      passed-all = met-all 23 never [] (elementNames (length xs) at xs) k (l .met) done
 
       pub passed-marks : Marks (namesOf xs) marks
-      passed-marks = rw (names-of (length xs) at xs (l .whole) (omega arith)) at (met-marks 23 [] (elementNames (length xs) at xs) k (l .met) done)
+      passed-marks = rw (names-of (length xs) at xs (l .whole) (omega arith)) at (met-marks 23 never [] (elementNames (length xs) at xs) k (l .met) done)
 
 -- ---- marks are made: each of the names has one, or is among those from place i on
 

@@ -10,7 +10,6 @@ use lib.Dec.{eqb}
 use Rattle.wire.specs.Bytes.{word}
 use Rattle.opmsg.specs.Names.{among}
 use Rattle.opmsg_element_names.specs.Inner.{lastWord}
-unfoldable pub use Rattle.opmsg_element_names.specs.Inner.{nameText, namesOf}
 
 -- where the mark of a text stands: by its first bytes and its last ones
 abbrev pub spread : ℕ → ℕ → ℕ

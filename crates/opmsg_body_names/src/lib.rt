@@ -10,10 +10,10 @@ ghost use mathlib.Core.Bool.{true};
 ghost use mathlib.Core.Path.{_≡_};
 ghost use Prim.Native.Nat.{_+_, _%_, _^_, _<_};
 ghost use lib.ListN.{length, take};
-ghost use Rattle.opmsg.specs.Names.{sameText, among, distinct, elementNames};
+ghost use Rattle.opmsg.specs.Names.{sameText, among, never, distinct, elementNames, namesOf};
 ghost use Rattle.opmsg.specs.declared.Verdict.the-variants.{Accepted};
 ghost use Rattle.opmsg.specs.Inner.{judged, Filled};
-ghost use Rattle.opmsg_body_names.specs.Inner.{namesOf, spread, slotOf, marked, marking, Marks};
+ghost use Rattle.opmsg_body_names.specs.Inner.{spread, slotOf, marked, marking, Marks};
 
 // How often marks are met in vain before tables are made.
 const VAIN: usize = 3;
@@ -61,6 +61,16 @@ fn bit(slot: usize) -> u64
     ensures { λ r. ⌜ r ≡ 2 ^ (slot % 64) ⌝ }
 {
     1 << (slot % 64)
+}
+
+// The mark of a text is made.
+pub fn is_marked(marks: &[u64; 32], text: &[u8]) -> bool
+    requires { ⌜ length (now marks) ≡ 32 ⌝ }
+    ensures { λ r. ⌜ r ≡ marked (now (marks .entry)) (slotOf (now (text .entry))) ⌝ }
+{
+    let place = slot(text);
+    let set = bit(place);
+    marks[place / 64] & set == set
 }
 
 // Makes the mark of a text, and tells whether it was made before.
@@ -116,7 +126,7 @@ fn mark_all(xs: &[u8], marks: &mut [u64; 32]) -> usize
 // Check 23 by tables.
 fn by_tables(xs: &[u8], at: usize, marks: &mut [u64; 32]) -> Verdict
     requires { ⌜ Filled (now xs) × (at + length (now xs) < 2 ^ 64) × (length (now marks) ≡ 32) × (length (now xs) < 2 ^ 32) ⌝ }
-    ensures is { λ r. ⌜ judged r ≡ distinct 23 [] (elementNames (length (now (xs .entry))) at (now (xs .entry))) ⌝ }
+    ensures is { λ r. ⌜ judged r ≡ distinct 23 never [] (elementNames (length (now (xs .entry))) at (now (xs .entry))) ⌝ }
     ensures marked { λ r. ⌜ (r ≡ Accepted → Marks (namesOf (now (xs .entry))) (now (marks .exit))) ⌝ }
 {
     let number = mark_all(xs, marks);
@@ -146,7 +156,7 @@ fn one_more(vain: usize, k: usize) -> usize {
 // before it; where that happens too often in vain, tables decide.
 fn compared(xs: &[u8], at: usize, marks: &mut [u64; 32]) -> Verdict
     requires { ⌜ Filled (now xs) × (at + length (now xs) < 2 ^ 64) × (length (now marks) ≡ 32) ⌝ }
-    ensures is { λ r. ⌜ judged r ≡ distinct 23 [] (elementNames (length (now (xs .entry))) at (now (xs .entry))) ⌝ }
+    ensures is { λ r. ⌜ judged r ≡ distinct 23 never [] (elementNames (length (now (xs .entry))) at (now (xs .entry))) ⌝ }
     ensures marked { λ r. ⌜ (r ≡ Accepted → Marks (namesOf (now (xs .entry))) (now (marks .exit))) ⌝ }
 {
     *marks = [0; 32];
@@ -173,7 +183,7 @@ fn compared(xs: &[u8], at: usize, marks: &mut [u64; 32]) -> Verdict
 // Check 23 of a body's elements xs, the first at a place. Their names get marks: where none is met, the names differ.
 pub fn body_names(xs: &[u8], at: usize, marks: &mut [u64; 32]) -> Verdict
     requires { ⌜ Filled (now xs) × (at + length (now xs) < 2 ^ 64) × (length (now marks) ≡ 32) ⌝ }
-    ensures is { λ r. ⌜ judged r ≡ distinct 23 [] (elementNames (length (now (xs .entry))) at (now (xs .entry))) ⌝ }
+    ensures is { λ r. ⌜ judged r ≡ distinct 23 never [] (elementNames (length (now (xs .entry))) at (now (xs .entry))) ⌝ }
     ensures marked { λ r. ⌜ (r ≡ Accepted → Marks (namesOf (now (xs .entry))) (now (marks .exit))) ⌝ }
 {
     if LONG < xs.len() {

@@ -5,18 +5,23 @@ use mathlib.Core.Path.{_≡_, refl, sym, _∙_, ap}
 use mathlib.Core.List.{List, [], _∷_}
 use native.Mathlib.Numerals.{sub-one}
 use native.Mathlib.Omega.{arith}
-use lib.ListN.{length, take, drop, length-drop, length-map}
+use lib.ListN.{length, getD, take, drop, length-drop, length-map}
 use lib.Seq.{take-all}
 use borrow.Author.Tests.{ne-eqb}
 use Rattle.bson_elements.specs.Element.{elementSize}
-use Rattle.opmsg.specs.Names.{Name, elementNames, texts}
+use Rattle.opmsg.specs.Names.{Name, elementNames, texts, nameText, namesOf}
+use Rattle.opmsg.specs.Dotted.{elementsWithin}
 use Rattle.opmsg.specs.Inner.{Filled, none, more}
-use Rattle.opmsg_element_names.specs.Inner.{nameText, namesOf}
 
 -- bytes that elements fill, from the second element on
 pub filled-next : {xs : List ℕ} → Filled xs → 0 < length xs → (0 < elementSize xs) × (elementSize xs ≤ length xs) × Filled (drop (elementSize xs) xs)
 filled-next none h = absurd (omega arith)
-filled-next (more a b f) h = (a, b, f)
+filled-next (more a b w f) h = (a, b, f)
+
+-- and within the first element, where that is a document
+pub filled-within : {xs : List ℕ} → Filled xs → 0 < length xs → getD xs 0 0 ≡ 0x03 → Filled (elementsWithin xs)
+filled-within none h = absurd (omega arith)
+filled-within (more a b w f) h = w
 
 pub names-end : (turns at : ℕ) → elementNames turns at [] ≡ []
 unfolding elementNames
@@ -29,7 +34,7 @@ nameAt at xs = record { place = at + 1; text = nameText xs }
 
 pub names-next : (turns at : ℕ) (xs : List ℕ) → 0 < turns → 0 < length xs
     → elementNames turns at xs ≡ nameAt at xs ∷ elementNames (turns - 1) (at + elementSize xs) (drop (elementSize xs) xs)
-unfolding elementNames nameText
+unfolding elementNames
 names-next zero at xs t l = absurd (omega arith)
 names-next (suc turns) at xs t l = rw (sub-one (suc turns), elementNames, ne-eqb (length xs) 0 (λ e. omega arith))
 

@@ -11,9 +11,10 @@ use lib.Seq.{ext-getD, getD-take, length-take-le}
 use lib.Dec.{ltb, eqb}
 use borrow.Author.Tests.{ltb-true, ltb-false, eqb-true, eqb-false}
 use borrow.Author.Count.{below-more}
+use Rattle.opmsg.specs.Names.{nameText}
 use Rattle.wire.specs.Bytes.{untilZero}
 use Rattle.wire.proofs.Bytes.{until-stop, until-go, until-zero, until-front, until-le}
-use Rattle.opmsg_element_names.specs.Inner.{key, Less, nameText, WithoutZero}
+use Rattle.opmsg_element_names.specs.Inner.{key, Less, WithoutZero}
 
 -- no text comes before itself
 pub less-other : {a b : List ℕ} → Less a b → a ≡ b → ⊥

@@ -9,14 +9,14 @@ use native.Mathlib.Omega.{arith}
 use lib.ListN.{length, drop, length-drop, drop-of-length-le}
 use lib.Seq.{drop-drop}
 use lib.Dec.{ltb, eqb}
-use borrow.Author.Tests.{ltb-true, ltb-false, eqb-true, eqb-false, eq-eqb}
+use borrow.Author.Tests.{ltb-true, ltb-false, eqb-true, eqb-false}
 use Rattle.wire.specs.Outcome.{ok, refused}
 use Rattle.wire.proofs.Outcome.{pass, stop}
 use Rattle.bson_elements.specs.Element.{elementSize}
-use Rattle.opmsg.specs.Names.{Name, sameText, among, distinct, elementNames}
+use Rattle.opmsg.specs.Names.{Name, sameText, among, never, distinct, elementNames}
 use Rattle.opmsg.specs.Inner.{Filled, none}
 use Rattle.opmsg_element_names.specs.Inner.{startOf, nameOf, First}
-use Rattle.opmsg_element_names.proofs.Texts.{same-text, among-cons}
+use Rattle.opmsg_element_names.proofs.Texts.{same-self, same-text, among-cons}
 use Rattle.opmsg_element_names.proofs.Names.{filled-next, nameAt, names-end, names-next, names-turns, names-few}
 
 -- a text is the name of one of the first n elements
@@ -121,11 +121,6 @@ earlier : List ℕ → ℕ → List (List ℕ)
 earlier xs zero = []
 earlier xs (suc k) = nameOf xs k ∷ earlier xs k
 
-same-self : (t : List ℕ) → sameText t t ≡ true
-unfolding sameText
-same-self [] = refl
-same-self (x ∷ t) = rw (sameText, eq-eqb x x refl) (same-self t)
-
 new : (xs t : List ℕ) (k : ℕ) → ((j : ℕ) → j < k → nameOf xs j ≡ t → ⊥) → among (earlier xs k) t ≡ false
 unfolding among earlier
 new xs t zero h = refl
@@ -147,27 +142,27 @@ old xs t (suc k) j l e = among-cons (nameOf xs k) (earlier xs k) t ∙ go (eqb j
 module _ (xs : List ℕ) (f : Filled xs) (at : ℕ) where
   -- where the first k names differ, check 23 goes on behind them
   goes-on : (k : ℕ) → ((j q : ℕ) → j < q → q < k → startOf xs q < length xs → nameOf xs j ≡ nameOf xs q → ⊥)
-      → distinct 23 [] (elementNames (length xs) at xs) ≡ distinct 23 (earlier xs k) (drop k (elementNames (length xs) at xs))
+      → distinct 23 never [] (elementNames (length xs) at xs) ≡ distinct 23 never (earlier xs k) (drop k (elementNames (length xs) at xs))
   unfolding distinct earlier
   goes-on zero h = refl
   goes-on (suc k) h = goes-on k (λ j q a b. h j q a (omega arith)) ∙ go (ltb (startOf xs k) (length xs)) refl
     where
       go : (t : Bool) → ltb (startOf xs k) (length xs) ≡ t
-          → distinct 23 (earlier xs k) (drop k (elementNames (length xs) at xs)) ≡ distinct 23 (earlier xs (suc k)) (drop (suc k) (elementNames (length xs) at xs))
+          → distinct 23 never (earlier xs k) (drop k (elementNames (length xs) at xs)) ≡ distinct 23 never (earlier xs (suc k)) (drop (suc k) (elementNames (length xs) at xs))
       go true e =
           let l = ltb-true (startOf xs k) (length xs) e in
-          rw (head xs f at k l, add-one k) (pass 23 (at + startOf xs k + 1) _ (new xs (nameOf xs k) k (λ j a. h j k a (omega arith) l)))
+          rw (head xs f at k l, add-one k) (pass 23 (at + startOf xs k + 1) _ (new xs (nameOf xs k) k (λ j a. h j k a (omega arith) l)) ∙ pass 23 (at + startOf xs k + 1) _ refl)
       go false e =
           let l = ltb-false (startOf xs k) (length xs) e in
           rw (end xs f at k l, end xs f at (suc k) (omega (arith, start-mono xs k (suc k) (omega arith))))
 
-  pub first-none : (bound : ℕ) → First xs bound → length xs ≤ bound → distinct 23 [] (elementNames (length xs) at xs) ≡ ok tt
+  pub first-none : (bound : ℕ) → First xs bound → length xs ≤ bound → distinct 23 never [] (elementNames (length xs) at xs) ≡ ok tt
   unfolding distinct
   first-none bound s h =
       goes-on (length xs) (λ j q a b c. s .clear j q a (omega arith))
       ∙ rw (drop-of-length-le (elementNames (length xs) at xs) (names-few (length xs) at xs f))
 
-  pub first-again : (bound : ℕ) → First xs bound → bound < length xs → distinct 23 [] (elementNames (length xs) at xs) ≡ refused 23 (at + bound + 1)
+  pub first-again : (bound : ℕ) → First xs bound → bound < length xs → distinct 23 never [] (elementNames (length xs) at xs) ≡ refused 23 (at + bound + 1)
   unfolding distinct
   first-again bound s h =
       let a = s .again h in

@@ -3,22 +3,14 @@
 use Prim.Native.Nat.{ℕ, zero, suc, _+_, _-_, _<_, _≤_}
 use mathlib.Core.List.{List}
 use mathlib.Core.Path.{_≡_}
-use lib.ListN.{length, getD, take, drop}
+use lib.ListN.{length, getD, drop}
 use Rattle.wire.specs.Bytes.{word, untilZero}
 use Rattle.bson_elements.specs.Element.{elementSize}
-use Rattle.opmsg.specs.Names.{elementNames, texts}
+use Rattle.opmsg.specs.Names.{nameText}
 use Rattle.opmsg_element_names.specs.declared.Order.{Order}
 use Rattle.opmsg_element_names.specs.declared.Order.the-variants.{Before, Same, After}
 
 -- ---- names
-
--- the name of the element at the start of xs
-unfoldable pub nameText : List ℕ → List ℕ
-nameText xs = take (untilZero (drop 1 xs)) (drop 1 xs)
-
--- the names of the elements of xs
-unfoldable pub namesOf : List ℕ → List (List ℕ)
-namesOf xs = texts (elementNames (length xs) 0 xs)
 
 -- a text has no zero byte
 abbrev pub WithoutZero : List ℕ → Type 0

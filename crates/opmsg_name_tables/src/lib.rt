@@ -10,7 +10,7 @@ ghost use mathlib.Core.List.{[]};
 ghost use mathlib.Core.Path.{_≡_};
 ghost use Prim.Native.Nat.{_+_, _^_, _<_};
 ghost use lib.ListN.{length};
-ghost use Rattle.opmsg.specs.Names.{distinct, elementNames};
+ghost use Rattle.opmsg.specs.Names.{never, distinct, elementNames};
 ghost use Rattle.opmsg.specs.Inner.{judged, Filled};
 ghost use Rattle.opmsg_element_names.specs.Inner.{First};
 
@@ -75,7 +75,7 @@ fn first_again(xs: &[u8], number: usize) -> usize
 // Check 23 of a body's elements xs, the first at a place, of which there are about so many.
 pub fn names_differ(xs: &[u8], at: usize, number: usize) -> Verdict
     requires { ⌜ Filled (now xs) × (at + length (now xs) < 2 ^ 64) × (length (now xs) < 2 ^ 32) ⌝ }
-    ensures { λ r. ⌜ judged r ≡ distinct 23 [] (elementNames (length (now (xs .entry))) at (now (xs .entry))) ⌝ }
+    ensures { λ r. ⌜ judged r ≡ distinct 23 never [] (elementNames (length (now (xs .entry))) at (now (xs .entry))) ⌝ }
 {
     let place = first_again(xs, number);
     if place < xs.len() {

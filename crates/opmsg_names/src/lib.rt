@@ -1,26 +1,28 @@
 // Checks 22 to 24: names and identifiers that must differ.
-pub mod identifiers;
-
-use crate::identifiers::at_range;
-use crate::identifiers::elements;
-use crate::identifiers::met;
 use opmsg::Entry;
 use opmsg::Section;
 use opmsg::Verdict;
 use opmsg::refused;
 use opmsg_body_names::body_names;
 use opmsg_body_names::mark;
+use opmsg_dotted::until_dot;
+use opmsg_identifiers::at_range;
+use opmsg_identifiers::elements;
+use opmsg_identifiers::met;
+use opmsg_identifiers::reaches;
 ghost use mathlib.Core.List.{List};
 ghost use mathlib.Core.Path.{_≡_};
 ghost use Prim.Native.Nat.{_+_, _-_, _^_, _<_, _≤_};
-ghost use Rattle.opmsg.specs.Names.{distinct, part, identifiers};
+ghost use Rattle.opmsg.specs.Names.{distinct, part, identifiers, namesOf};
+ghost use Rattle.opmsg.specs.Dotted.{found};
 ghost use Rattle.opmsg.specs.declared.Section.{Section};
 ghost use Rattle.opmsg.specs.Read.{distinctNames};
 ghost use Rattle.opmsg.specs.Inner.{judged, firstSections, Shows, Filled};
-ghost use Rattle.opmsg_body_names.specs.Inner.{namesOf, Marks};
+ghost use Rattle.opmsg_body_names.specs.Inner.{Marks};
 
-// Check 24, given the body's elements and the marks of their names.
-fn identifiers_differ(
+// Check 24, given the body's elements and the marks of their names. An identifier whose mark is met is compared, and one with a dot is
+// followed.
+fn compared(
     xs: &[u8],
     elements: &[u8],
     given: [u64; 32],
@@ -28,7 +30,7 @@ fn identifiers_differ(
     used: usize,
 ) -> Verdict
     requires { ⌜ (used ≤ 17) × Filled (now elements) × Marks (namesOf (now elements)) given ⌝ }
-    ensures { λ r. ⌜ judged r ≡ distinct 24 (namesOf (now (elements .entry))) (identifiers (now (xs .entry)) (firstSections used entries)) ⌝ }
+    ensures { λ r. ⌜ judged r ≡ distinct 24 (found (now (elements .entry))) (namesOf (now (elements .entry))) (identifiers (now (xs .entry)) (firstSections used entries)) ⌝ }
 {
     let mut marks = given;
     let mut k: usize = 0;
@@ -41,6 +43,39 @@ fn identifiers_differ(
                 if met(xs, elements, entries, k, text) {
                     return refused(24, identifier.start as usize);
                 }
+            }
+            if reaches(elements, &marks, text) {
+                return refused(24, identifier.start as usize);
+            }
+        }
+        k += 1;
+    }
+    Verdict::Accepted
+}
+
+// The same where identifiers have no dots and meet no marks, as most do: they differ.
+fn identifiers_differ(
+    xs: &[u8],
+    elements: &[u8],
+    given: [u64; 32],
+    entries: [Entry; 17],
+    used: usize,
+) -> Verdict
+    requires { ⌜ (used ≤ 17) × Filled (now elements) × Marks (namesOf (now elements)) given ⌝ }
+    ensures { λ r. ⌜ judged r ≡ distinct 24 (found (now (elements .entry))) (namesOf (now (elements .entry))) (identifiers (now (xs .entry)) (firstSections used entries)) ⌝ }
+{
+    let mut marks = given;
+    let mut k: usize = 0;
+    while k < used {
+        let entry = entries[k];
+        let section = entry.section;
+        if let Section::Sequence { identifier, .. } = section {
+            let text = at_range(xs, identifier);
+            if mark(&mut marks, text) {
+                return compared(xs, elements, given, entries, used);
+            }
+            if until_dot(text) < text.len() {
+                return compared(xs, elements, given, entries, used);
             }
         }
         k += 1;

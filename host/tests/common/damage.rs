@@ -106,7 +106,7 @@ fn flip_bytes(random: &mut Random, bytes: &mut [u8]) {
         let at = random.below(bytes.len());
         bytes[at] = match random.below(4) {
             0 => random.byte(),
-            1 => random.pick(&[0, 0, 1, 2, 3, 4, 5, 0x0F, 0x7F, 0x80, 0xFF]),
+            1 => random.pick(&[0, 0, 1, 2, 3, 4, 5, 0x0F, b'.', 0x7F, 0x80, 0xFF]),
             2 => bytes[at].wrapping_add(1),
             _ => bytes[at] ^ 1 << random.below(8),
         };

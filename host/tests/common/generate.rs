@@ -1,9 +1,10 @@
 //! Random documents, messages and editions, whole and with faults inside.
 
 use super::bson::*;
+use super::dotted::{dotted_identifier, nested_document};
 use super::message::*;
 use super::random::Random;
-use super::reference::{self, Edition, MAX_MESSAGE};
+use super::reference::{self, elements_of, Edition, MAX_MESSAGE};
 use super::text::{any_string_text, any_text, faulty_text};
 
 /// How a document is made.
@@ -408,16 +409,44 @@ fn any_sections(random: &mut Random, edition: &Edition, style: Style) -> Vec<Sec
         13..=16 => random.between(4, 14),
         _ => random.between(15, 17),
     };
+    let body = if style.faults == 0 && random.percent(50) {
+        nested_document(random)
+    } else {
+        any_document(random, style)
+    };
     let mut sections: Vec<Section> = (0..count)
         .map(|index| any_sequence(random, style, index))
         .collect();
+    if random.percent(50) {
+        put_in_dots(random, &mut sections, &body);
+    }
     let place = match random.below(10) {
         0..=3 => 0,
         4..=5 => count,
         _ => random.below(count + 1),
     };
-    sections.insert(place, Section::Body(any_document(random, style)));
+    sections.insert(place, Section::Body(body));
     sections
+}
+
+/// Gives some of the sequences identifiers with dots that lead to no name of
+/// the body, and seldom one that does.
+fn put_in_dots(random: &mut Random, sequences: &mut [Section], body: &[u8]) {
+    let elements = elements_of(body).unwrap_or_default();
+    let mut taken = Vec::new();
+    for section in sequences {
+        let Section::Sequence { identifier, .. } = section else {
+            continue;
+        };
+        let clashes = random.percent(2);
+        match dotted_identifier(random, body, &elements, clashes) {
+            Some(new) if random.percent(60) && !taken.contains(&new) => {
+                taken.push(new.clone());
+                *identifier = new;
+            }
+            _ => {}
+        }
+    }
 }
 
 /// How many sequences the body of this message shall be moved behind: as many
@@ -533,7 +562,7 @@ fn grow(random: &mut Random, draft: &mut Draft) {
 /// checksum else right.
 pub fn faulty_draft(random: &mut Random, edition: &Edition) -> Draft {
     let mut draft = any_draft(random, edition);
-    match random.below(13) {
+    match random.below(17) {
         0 => draft.sections.retain(|s| !matches!(s, Section::Body(_))),
         1 => {
             let place = random.below(draft.sections.len() + 1);
@@ -558,6 +587,7 @@ pub fn faulty_draft(random: &mut Random, edition: &Edition) -> Draft {
             }
             draft.sections.push(Section::Raw(faulty_section(random)));
         }
+        8..=11 => path_clash(random, &mut draft),
         _ => {
             let style = Style {
                 faults: random.between(5, 30),
@@ -619,6 +649,37 @@ fn clash(random: &mut Random, draft: &mut Draft) {
         });
     } else {
         add_to_body(draft, &element(0x0A, b"flow", b""));
+    }
+}
+
+/// Makes the body anew, and puts in sequences whose identifiers lead to names
+/// in it; at times there is another clash too.
+pub fn path_clash(random: &mut Random, draft: &mut Draft) {
+    let new = nested_document(random);
+    let elements = elements_of(&new).expect("nothing is wrong with it");
+    for section in &mut draft.sections {
+        if let Section::Body(body) = section {
+            body.clone_from(&new);
+        }
+    }
+    for _ in 0..random.pick(&[1, 1, 2]) {
+        let Some(identifier) = dotted_identifier(random, &new, &elements, true) else {
+            return;
+        };
+        let place = random.below(draft.sections.len() + 1);
+        let documents = random.pick(&[&b""[..], &EMPTY]).to_vec();
+        draft.sections.insert(
+            place,
+            Section::Sequence {
+                identifier,
+                documents,
+            },
+        );
+    }
+    match random.below(10) {
+        0..=3 => clash(random, draft),
+        4 => name_twice(random, draft),
+        _ => {}
     }
 }
 

@@ -4,6 +4,7 @@
 
 pub mod bson;
 pub mod damage;
+pub mod dotted;
 pub mod generate;
 pub mod message;
 pub mod names;

@@ -1,5 +1,5 @@
 //! An independent reader, forwarder, writer, appender and mover, written from
-//! the rules of document 01, change requests 4 and 5 and RFC 3629 and from
+//! the rules of document 01, change requests 2, 4 and 5 and RFC 3629 and from
 //! nothing else. It is plain and slow on purpose: the tests hold the library
 //! against it.
 
@@ -20,6 +20,8 @@ pub struct Refused {
     pub place: usize,
     /// What a 27 is about, so that a test can count the kinds.
     pub text: Option<BadText>,
+    /// What a 24 is about, for the same reason.
+    pub clash: Option<Clash>,
 }
 
 impl Refused {
@@ -28,8 +30,20 @@ impl Refused {
             number,
             place,
             text: None,
+            clash: None,
         }
     }
+}
+
+/// What an identifier clashes with.
+#[derive(Clone, Copy, Debug, PartialEq, Eq)]
+pub enum Clash {
+    /// A top-level name of the body.
+    TopName,
+    /// An earlier identifier.
+    Identifier,
+    /// A name that it leads to, from the body on.
+    Path,
 }
 
 /// A text that is not UTF-8.
@@ -289,24 +303,42 @@ const fn step_table() -> [u32; 256] {
 // ------------------------------------------------------------------- read
 
 pub fn read(edition: &Edition, buffer: &[u8]) -> Result<View, Refused> {
+    let (view, body) = read_before_24(edition, buffer)?;
+    check_identifiers(buffer, &body, &view.sequences())?;
+    Ok(view)
+}
+
+/// Every check but 24; answers the elements of the body too.
+pub fn read_before_24(edition: &Edition, buffer: &[u8]) -> Result<(View, Vec<Element>), Refused> {
     let length = read_header(buffer)?;
     let message = &buffer[..length];
     let flags = read_flags(edition, message)?;
     let end = sections_end(message, flags)?;
     let found = read_sections(edition, message, end)?;
-    let Some(body_names) = found.body_names else {
+    let Some(body) = found.body else {
         return refuse(22, end);
     };
-    check_names(message, &body_names)?;
-    check_identifiers(message, &body_names, &sequences_of(&found.sections))?;
-    Ok(View {
+    check_names(message, &body)?;
+    let view = View {
         length,
         request_id: i32_at(message, 4),
         response_to: i32_at(message, 8),
         flags: flags & edition.bits,
         elements: found.elements,
         sections: found.sections,
-    })
+    };
+    Ok((view, body))
+}
+
+/// The elements of a document that stands by itself, where nothing is wrong
+/// with it.
+pub fn elements_of(document: &[u8]) -> Option<Vec<Element>> {
+    let mut walk = Walk {
+        message: document,
+        elements: 0,
+    };
+    let (after, elements) = walk.document(0, document.len(), 1).ok()?;
+    (after == document.len()).then_some(elements)
 }
 
 /// Checks 1 to 6; answers messageLength.
@@ -364,9 +396,19 @@ fn has_checksum(flags: u32) -> bool {
 
 struct Found {
     sections: Vec<Section>,
-    /// The names at the top of the body, where there is one.
-    body_names: Option<Vec<Range<usize>>>,
+    /// The elements of the body, where there is one.
+    body: Option<Vec<Element>>,
     elements: usize,
+}
+
+/// An element that was read.
+#[derive(Clone, Debug)]
+pub struct Element {
+    pub kind: u8,
+    /// Where its name stands, without the zero byte.
+    pub name: Range<usize>,
+    /// The elements of the document, array or scope that it holds.
+    pub inside: Vec<Element>,
 }
 
 /// Checks 10 to 21 and 27, from left to right.
@@ -375,17 +417,16 @@ fn read_sections(edition: &Edition, message: &[u8], end: usize) -> Result<Found,
         message,
         elements: 0,
     };
-    let mut body_names = None;
+    let mut body = None;
     let mut sections = Vec::new();
     let mut at = 20;
     while at < end {
         match message[at] {
-            0 if body_names.is_some() => return refuse(11, at),
+            0 if body.is_some() => return refuse(11, at),
             0 => {
-                let mut names = Vec::new();
-                let after = walk.document(at + 1, end, 1, &mut names)?;
+                let (after, elements) = walk.document(at + 1, end, 1)?;
                 sections.push(Section::Body(at + 1..after));
-                body_names = Some(names);
+                body = Some(elements);
                 at = after;
             }
             1 if edition.sequences => {
@@ -401,7 +442,7 @@ fn read_sections(edition: &Edition, message: &[u8], end: usize) -> Result<Found,
     }
     Ok(Found {
         sections,
-        body_names,
+        body,
         elements: walk.elements,
     })
 }
@@ -432,7 +473,7 @@ impl Walk<'_> {
         let mut count = 0;
         let mut next = zero + 1;
         while next < section_end {
-            next = self.document(next, section_end, 1, &mut Vec::new())?;
+            (next, _) = self.document(next, section_end, 1)?;
             count += 1;
         }
         Ok(Sequence {
@@ -442,15 +483,13 @@ impl Walk<'_> {
         })
     }
 
-    /// Reads a document, lists the names of its own elements and answers the
-    /// place after it.
+    /// Reads a document; answers the place after it and its elements.
     fn document(
         &mut self,
         start: usize,
         enclosing_end: usize,
         level: usize,
-        names: &mut Vec<Range<usize>>,
-    ) -> Result<usize, Refused> {
+    ) -> Result<(usize, Vec<Element>), Refused> {
         if level > MAX_LEVEL {
             return refuse(20, start);
         }
@@ -466,23 +505,24 @@ impl Walk<'_> {
         if self.message[last] != 0 {
             return refuse(16, last);
         }
+        let mut elements = Vec::new();
         let mut at = start + 4;
         while at < last {
-            let (name, next) = self.element(at, last, level)?;
-            names.push(name);
+            let (next, element) = self.element(at, last, level)?;
+            elements.push(element);
             at = next;
         }
-        Ok(after)
+        Ok((after, elements))
     }
 
     /// Reads an element of a document whose last byte is at `last`; answers
-    /// its name and the place after it.
+    /// the place after it, and it.
     fn element(
         &mut self,
         at: usize,
         last: usize,
         level: usize,
-    ) -> Result<(Range<usize>, usize), Refused> {
+    ) -> Result<(usize, Element), Refused> {
         if self.elements == MAX_ELEMENTS {
             return refuse(21, at);
         }
@@ -501,12 +541,18 @@ impl Walk<'_> {
             Text::InnerName
         };
         self.text(text, name_start..zero)?;
-        let next = self.value(kind, zero + 1, last, level)?;
-        Ok((name_start..zero, next))
+        let value = zero + 1;
+        let (next, inside) = match kind {
+            0x03 | 0x04 => self.document(value, last, level + 1)?,
+            0x0F => self.code_with_scope(value, last, level)?,
+            _ => (self.value(kind, value, last)?, Vec::new()),
+        };
+        let name = name_start..zero;
+        Ok((next, Element { kind, name, inside }))
     }
 
-    /// Reads a value; answers the place after it.
-    fn value(&mut self, kind: u8, at: usize, last: usize, level: usize) -> Result<usize, Refused> {
+    /// Reads a value that holds no document; answers the place after it.
+    fn value(&self, kind: u8, at: usize, last: usize) -> Result<usize, Refused> {
         let found = match kind {
             0x01 | 0x09 | 0x11 | 0x12 => fixed(at, 8, last),
             0x10 => fixed(at, 4, last),
@@ -523,8 +569,6 @@ impl Walk<'_> {
                 let after = self.string(Text::Pointer, at, at, last)?;
                 fixed(after, 12, last)
             }
-            0x03 | 0x04 => return self.document(at, last, level + 1, &mut Vec::new()),
-            0x0F => return self.code_with_scope(at, last, level),
             _ => unreachable!("the type was looked up in the table"),
         };
         match found {
@@ -606,7 +650,14 @@ impl Walk<'_> {
         Ok(zero + 1)
     }
 
-    fn code_with_scope(&mut self, at: usize, last: usize, level: usize) -> Result<usize, Refused> {
+    /// Reads a value of type 0F; answers the place after it and the elements of
+    /// its scope.
+    fn code_with_scope(
+        &mut self,
+        at: usize,
+        last: usize,
+        level: usize,
+    ) -> Result<(usize, Vec<Element>), Refused> {
         if last - at < 4 {
             return refuse(19, at);
         }
@@ -616,11 +667,11 @@ impl Walk<'_> {
         }
         let end = at + total as usize;
         let scope = self.string(Text::ScopedCode, at, at + 4, end)?;
-        let after = self.document(scope, end, level + 1, &mut Vec::new())?;
+        let (after, elements) = self.document(scope, end, level + 1)?;
         if after != end {
             return refuse(19, at);
         }
-        Ok(end)
+        Ok((end, elements))
     }
 }
 
@@ -630,32 +681,68 @@ fn fixed(at: usize, size: usize, limit: usize) -> Option<usize> {
 }
 
 /// Check 23.
-fn check_names(message: &[u8], names: &[Range<usize>]) -> Result<(), Refused> {
+fn check_names(message: &[u8], body: &[Element]) -> Result<(), Refused> {
     let mut seen = HashSet::new();
-    for name in names {
-        if !seen.insert(&message[name.clone()]) {
-            return refuse(23, name.start);
+    for element in body {
+        if !seen.insert(&message[element.name.clone()]) {
+            return refuse(23, element.name.start);
         }
     }
     Ok(())
 }
 
-/// Check 24.
+/// Check 24: the first identifier that clashes in any way.
 fn check_identifiers(
     message: &[u8],
-    names: &[Range<usize>],
+    body: &[Element],
     sequences: &[&Sequence],
 ) -> Result<(), Refused> {
     if sequences.is_empty() {
         return Ok(());
     }
-    let mut seen: HashSet<&[u8]> = names.iter().map(|name| &message[name.clone()]).collect();
+    let names: HashSet<&[u8]> = body.iter().map(|e| &message[e.name.clone()]).collect();
+    let mut earlier = HashSet::new();
     for sequence in sequences {
-        if !seen.insert(&message[sequence.identifier.clone()]) {
-            return refuse(24, sequence.identifier.start);
-        }
+        let identifier = &message[sequence.identifier.clone()];
+        let clash = if names.contains(identifier) {
+            Clash::TopName
+        } else if !earlier.insert(identifier) {
+            Clash::Identifier
+        } else if leads_to_a_name(message, body, identifier) {
+            Clash::Path
+        } else {
+            continue;
+        };
+        let mut refused = Refused::new(24, sequence.identifier.start);
+        refused.clash = Some(clash);
+        return Err(refused);
     }
     Ok(())
+}
+
+/// Whether an identifier with dots leads to a name, from these elements on. Its
+/// names are followed one at a time: from the documents that were reached, all
+/// documents of type 03 with the next name are reached. The last name may be
+/// that of any element.
+pub fn leads_to_a_name(bytes: &[u8], body: &[Element], identifier: &[u8]) -> bool {
+    let mut names: Vec<&[u8]> = identifier.split(|&byte| byte == b'.').collect();
+    let last = names.pop().expect("a part at least");
+    if names.is_empty() {
+        return false;
+    }
+    let mut reached: Vec<&[Element]> = vec![body];
+    for name in names {
+        let named = reached
+            .into_iter()
+            .flatten()
+            .filter(|element| bytes[element.name.clone()] == *name);
+        reached = named
+            .filter(|element| element.kind == 0x03)
+            .map(|element| &element.inside[..])
+            .collect();
+    }
+    let mut elements = reached.into_iter().flatten();
+    elements.any(|element| bytes[element.name.clone()] == *last)
 }
 
 // ----------------------------------------- forward, write, append and move

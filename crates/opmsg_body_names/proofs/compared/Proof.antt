@@ -7,8 +7,7 @@ use mathlib.Core.Path.{_≡_, ap, sym, _∙_}
 use native.Mathlib.Omega.{arith}
 use lib.ListN.{length, take, drop, length-replicate}
 use borrow.Author.Needs.{needs}
-use Rattle.opmsg.specs.Names.{among}
-use Rattle.opmsg_body_names.specs.Inner.{nameText, namesOf}
+use Rattle.opmsg.specs.Names.{among, nameText, namesOf}
 use Rattle.opmsg_body_names.proofs.Distinct.{not-accepted, marking-size}
 use Rattle.opmsg_body_names.proofs.Elements.{reached-read, NamesPassed, passed-none, passed-unmarked, passed-again, passed-next, passed-all, passed-marks}
 use Rattle.opmsg_body_names.proofs.compared.Statement.{statement}

@@ -3,8 +3,8 @@
 use Prim.Native.Nat.{_+_}
 use lib.Seq.{drop-drop}
 use borrow.Author.Needs.{needs}
+use Rattle.opmsg.specs.Names.{nameText}
 use Rattle.wire.proofs.Parts.{rest-part}
-use Rattle.opmsg_element_names.specs.Inner.{nameText}
 use Rattle.opmsg_element_names.proofs.against.Statement.{statement}
 use Rattle.opmsg_element_names.proofs.against.Tie as tie
 

@@ -4,9 +4,9 @@ use Prim.Native.Nat.{_+_}
 use mathlib.Core.Path.{sym}
 use lib.Seq.{drop-drop, length-take-le}
 use borrow.Author.Needs.{needs}
+use Rattle.opmsg.specs.Names.{nameText}
 use Rattle.wire.proofs.Bytes.{until-le}
 use Rattle.wire.proofs.Parts.{rest-part}
-use Rattle.opmsg_element_names.specs.Inner.{nameText}
 use Rattle.opmsg_element_names.proofs.name.Statement.{statement}
 use Rattle.opmsg_element_names.proofs.name.Tie as tie
 

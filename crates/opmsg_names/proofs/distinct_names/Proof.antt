@@ -5,7 +5,7 @@ use native.Mathlib.Omega.{arith}
 use lib.ListN.{length-take, length-drop}
 use borrow.Author.Needs.{needs}
 use Rattle.opmsg.specs.Names.{distinct, part}
-use Rattle.opmsg_names.proofs.Kept.{without-sequences, absent, repeated, different}
+use Rattle.opmsg_identifiers.proofs.Kept.{without-sequences, absent, repeated, different}
 use Rattle.opmsg_names.proofs.distinct_names.Statement.{statement}
 use Rattle.opmsg_names.proofs.distinct_names.Tie as tie
 

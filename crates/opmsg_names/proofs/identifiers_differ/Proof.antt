@@ -1,40 +1,32 @@
--- `opmsg_names::identifiers_differ` meets its contract. The loop's invariant: the identifiers among the first k entries differ, and their marks are made.
--- The measure is the number of entries left. Assumes nothing.
+-- `opmsg_names::identifiers_differ` meets its contract. The loop's invariant: the identifiers among the first k entries differ, lead to no name of the
+-- elements, and their marks are made. The measure is the number of entries left. Assumes nothing.
 use Prim.Native.Nat.{_-_, _≤_}
 use mathlib.Core.Logic.{⊎-elim}
 use mathlib.Core.Path.{_≡_, sym, _∙_}
 use native.Mathlib.Omega.{arith}
 use lib.ListN.{length}
 use borrow.Author.Needs.{needs}
-use Rattle.opmsg.specs.Names.{identifiers}
-use Rattle.opmsg_body_names.specs.Inner.{namesOf}
+use Rattle.opmsg.specs.Names.{identifiers, namesOf}
+use Rattle.opmsg.specs.Dotted.{found}
+use Rattle.opmsg_body_names.proofs.Texts.{neither}
 use Rattle.opmsg_body_names.proofs.Distinct.{Met, met-none}
-use Rattle.opmsg_names.proofs.Table.{firstIdentifiers, count, differ-all, differ-other, differ-again, differ-unmarked, differ-new}
+use Rattle.opmsg_dotted.proofs.Follow.{found-plain}
+use Rattle.opmsg_identifiers.proofs.Table.{firstIdentifiers, count, differ-all, differ-other, differ-unmarked, differ-new}
 use Rattle.opmsg_names.proofs.identifiers_differ.Statement.{statement}
 use Rattle.opmsg_names.proofs.identifiers_differ.Tie as tie
 
 abbrev Inv-loop : tie.InvT-loop
-Inv-loop xs elements used entries marks₀ k₀ marks k =
-    (length entries ≡ 17) × (k ≤ used) × Met 24 (namesOf elements) (firstIdentifiers xs entries used) (count xs entries k) marks
+Inv-loop xs elements given used entries marks₀ k₀ marks k =
+    (length entries ≡ 17) × (k ≤ used) × Met 24 (found elements) (namesOf elements) (firstIdentifiers xs entries used) (count xs entries k) marks
 
 abbrev μ-loop : tie.MeasureT-loop
-μ-loop xs elements used entries marks₀ k₀ marks k = used - k
+μ-loop xs elements given used entries marks₀ k₀ marks k = used - k
 
 loop-holds : tie.Need-loop-holds Inv-loop μ-loop
 unfolding identifiers
 loop-holds c =
     let p2 = c .before .before in
-    (p2 .good .1 .1 .1 .0 .1 .0 .1, omega arith, met-none _ _ _ (p2 .pre .2))
-
-returns : tie.Need-returns Inv-loop μ-loop
-returns c =
-    let n = c .before .before .before in
-    let r = n .before .before .before .before in
-    let q = r .before .before in
-    let t = q .before .before .before in
-    let l = t .before in
-    rw (c .refused .ensures) (sym (differ-again (l .before .before .before .args .xs .now) _ _ _ _ (l .loop .inv .2) (l .loop .inv .1) (t .loop-test .taken) (omega arith) (q .section .given .1) _ (r .at-range .ensures)
-    (sym (n .met .ensures) ∙ c .before .before .if2 .taken)))
+    (p2 .good .1 .1 .1 .0 .1 .0 .1, omega arith, met-none _ _ _ _ (p2 .pre .2))
 
 loop-again : tie.Need-loop-again Inv-loop μ-loop
 loop-again c =
@@ -45,15 +37,16 @@ loop-again c =
       l .loop .inv .0,
       omega arith,
       ⊎-elim
-          (λ w. rw (w .9, w .5 .ensures .1) (differ-new xs _ _ _ _ m (l .loop .inv .1) (t .loop-test .taken) (omega arith) (w .1 .given .1) _ (w .3 .ensures) (sym (w .7 .ensures) ∙ w .8 .left)))
-          (⊎-elim
-          (λ w. rw (w .7, w .5 .ensures .1) (differ-unmarked xs _ _ _ _ m (l .loop .inv .1) (t .loop-test .taken) (omega arith) (w .1 .given .1) _ (w .3 .ensures) (sym (w .5 .ensures .0) ∙ w .6 .left)))
-          (λ w. rw (w .1) (differ-other xs _ _ _ _ m (l .loop .inv .1) (t .loop-test .taken) (omega arith) (w .0 .keys2))))
+          (λ w.
+          let new = differ-unmarked xs _ _ _ _ _ m (l .loop .inv .1) (t .loop-test .taken) (omega arith) (w .1 .given .1) _ (w .3 .ensures) (sym (w .5 .ensures .0) ∙ w .6 .left) in
+          rw (w .9, w .5 .ensures .1) (differ-new xs _ _ _ _ _ m (l .loop .inv .1) (t .loop-test .taken) (omega arith) (w .1 .given .1) _ (w .3 .ensures) new
+          (found-plain _ _ (omega (arith, w .7 .ensures, w .8 .left)) ∙ neither _ _ new .0)))
+          (λ w. rw (w .1) (differ-other xs _ _ _ _ _ m (l .loop .inv .1) (t .loop-test .taken) (omega arith) (w .0 .keys2)))
           (c .match .came),
     )
 
-returns-2 : tie.Need-returns-2 Inv-loop μ-loop
-returns-2 c = sym (differ-all (c .before .before .before .before .args .xs .now) _ _ _ _ (c .before .loop .inv .2) (c .before .loop .inv .1) (c .loop-test .left))
+returns-3 : tie.Need-returns-3 Inv-loop μ-loop
+returns-3 c = sym (differ-all (c .before .before .before .before .args .xs .now) _ _ _ _ _ (c .before .loop .inv .2) (c .before .loop .inv .1) (c .loop-test .left))
 
 pub identifiers-differ-spec : {M : Type 1} → statement M
 identifiers-differ-spec =
@@ -67,11 +60,12 @@ identifiers-differ-spec =
     (λ c. search needs)
     (λ c κs. search needs)
     (λ c κs. c .before .before .before .before .before .before .before .loop .inv .2 .marked .size)
-    (λ c κs. (omega arith, c .before .before .before .before .before .before .before .before .before .before .before .before .pre .1))
-    (λ c. search needs)
+    (λ c κs. c .before .before .before .before .before .before .before .before .before .before .before .before .pre)
+    (λ c. c .compared .ensures)
     (λ c κs. search needs)
-    returns
+    (λ c κs. c .before .before .before .before .before .before .before .before .before .before .before .before .before .before .pre)
+    (λ c. c .compared2 .ensures)
     (λ c. search needs)
     (λ c. omega arith)
     loop-again
-    returns-2)
+    returns-3)

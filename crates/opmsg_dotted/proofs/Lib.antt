@@ -1,0 +1,3 @@
+pub mod FirstName
+pub mod Follow
+pub mod Paths
