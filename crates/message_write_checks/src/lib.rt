@@ -45,7 +45,8 @@ pub fn examine_body(body: &[u8]) -> Walk
     };
     let last = size - 1;
     let mut marks: [u64; 32] = [0; 32];
-    let verdict = body_names(&body[4..last], 25, &mut marks);
+    let names = body_names(&body[4..last], 25, &mut marks);
+    let verdict = names.verdict;
     if let Verdict::Refused { number, place } = verdict {
         return Walk::Refused { number, place };
     }

@@ -1,7 +1,7 @@
 -- What the answers of the readers' parts stand for in document 01's terms, and what is kept of sections.
 -- Assumes nothing: these are definitions.
 use Prim.Native.Nat.{ℕ, _<_, _≤_}
-use mathlib.Core.Bool.{Bool, _||_}
+use mathlib.Core.Bool.{Bool, false, _||_}
 use mathlib.Core.List.{List, [], map, _++_}
 use mathlib.Core.Path.{_≡_}
 use lib.ListN.{getD, take, drop}
@@ -9,7 +9,7 @@ use Rattle.wire.specs.Outcome.{Outcome, ok, refused}
 use Rattle.bson_elements.specs.Element.{elementSize}
 use Rattle.opmsg.specs.Sections.{bodyOf, sequencesOf}
 use Rattle.opmsg.specs.Names.{among, bodyElements, bodyNames, identifiers, texts}
-use Rattle.opmsg.specs.Dotted.{elementsWithin, found}
+use Rattle.opmsg.specs.Dotted.{untilDot, elementsWithin, found}
 use Rattle.opmsg.specs.View.{padded}
 use Rattle.opmsg.specs.declared.Section.{Section}
 use Rattle.opmsg.specs.declared.Entry.{Entry}
@@ -26,6 +26,10 @@ pub data Filled : List ℕ → Type 0 where
   none : Filled []
   more : {xs : List ℕ} → 0 < elementSize xs → elementSize xs ≤ lib.ListN.length xs → (getD xs 0 0 ≡ 0x03 → Filled (elementsWithin xs))
       → Filled (drop (elementSize xs) xs) → Filled xs
+
+-- no text with a dot is found from the elements xs on
+abbrev pub Flat : List ℕ → Type 0
+Flat xs = (text : List ℕ) → untilDot text < lib.ListN.length text → found xs text ≡ false
 
 -- a text is one of the body's names or of the identifiers, or leads to a name in the body
 abbrev pub clashes : (xs : List ℕ) → List Section → (text : List ℕ) → Bool

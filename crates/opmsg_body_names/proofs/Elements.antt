@@ -2,18 +2,20 @@
 -- Assumes nothing.
 use Prim.Native.Nat.{ℕ, _+_, _-_, _/_, _≤_, _<_}
 use mathlib.Core.Bool.{Bool, true, false, _||_, or-true, or-false}
-use mathlib.Core.Path.{_≡_, refl, _∙_, ap}
+use mathlib.Core.Path.{_≡_, refl, sym, _∙_, ap}
 use mathlib.Core.List.{List, [], _∷_}
 use native.Mathlib.Omega.{arith}
-use lib.ListN.{length, take, drop, length-drop, drop-of-length-le}
-use lib.Seq.{drop-drop, take-nil}
+use lib.ListN.{length, getD, take, drop, length-drop, drop-of-length-le}
+use lib.Seq.{drop-cons, drop-drop, take-nil}
 use Rattle.wire.specs.Outcome.{ok, refused}
 use Rattle.bson_elements.specs.Element.{elementSize}
 use Rattle.opmsg.specs.Names.{sameText, among, never, distinct, elementNames, texts, nameText, namesOf}
-use Rattle.opmsg.specs.Inner.{Filled, none}
+use Rattle.opmsg.specs.Dotted.{untilDot, found}
+use Rattle.opmsg.specs.Inner.{Filled, Flat}
 pub use Rattle.opmsg_element_names.proofs.Names.{names-turns, names-of, all-names}
 use Rattle.opmsg_element_names.proofs.Names.{filled-next, nameAt, names-end, names-next}
 use Rattle.opmsg_element_names.specs.Inner.{Read}
+use Rattle.opmsg_dotted.proofs.Follow.{found-none, found-passing}
 use Rattle.opmsg_body_names.specs.Inner.{slotOf, marked, marking, Marks}
 use Rattle.opmsg_body_names.proofs.Texts.{same-text, among-cons, take-cons, drop-next, texts-take}
 use Rattle.opmsg_body_names.proofs.Distinct.{slot-small, mark-made, mark-stays, marking-size, marks-none, Met, met-none, met-unmarked, met-next, met-again, met-all, met-marks}
@@ -201,3 +203,18 @@ module _ (xs : List ℕ) (i : ℕ) (marks : List ℕ) (m : Marking xs i marks) w
     where
       none-left : (t : List ℕ) → among (texts (elementNames (m .turns) i (drop i xs))) t ≡ false
       none-left t = rw (reached-end xs i (m .turns) (m .reached) i h) (unfold texts among in refl)
+
+-- ---- no document among the elements before place i: a text with a dot is found if it is found from there on
+
+abbrev pub FlatTo : List ℕ → ℕ → Type 0
+FlatTo xs i = (text : List ℕ) → untilDot text < length text → found xs text ≡ found (drop i xs) text
+
+module _ (xs : List ℕ) (i : ℕ) (flat : FlatTo xs i) where
+  pub flat-next : Filled (drop i xs) → i < length xs → (getD xs i 0 ≡ 0x03 → ⊥) → (end : ℕ) → end ≡ i + elementSize (drop i xs) → FlatTo xs end
+  flat-next f l t end e text h =
+      flat text h
+      ∙ found-passing text (drop i xs) f (rw length-drop (omega arith)) (λ z. t (sym (rw (drop-cons xs i 0 l)) ∙ z)) h
+      ∙ ap (λ (ys : List ℕ). found ys text) (rw (drop-drop, e))
+
+  pub flat-all : length xs ≤ i → Flat xs
+  flat-all l text h = flat text h ∙ rw (drop-of-length-le xs l) (found-none text)

@@ -6,14 +6,23 @@ use opmsg_element_names::name;
 use opmsg_element_names::next;
 use opmsg_name_tables::names_differ;
 ghost use mathlib.Core.List.{[]};
-ghost use mathlib.Core.Bool.{true};
+ghost use mathlib.Core.Bool.{true, false};
 ghost use mathlib.Core.Path.{_≡_};
 ghost use Prim.Native.Nat.{_+_, _%_, _^_, _<_};
 ghost use lib.ListN.{length, take};
 ghost use Rattle.opmsg.specs.Names.{sameText, among, never, distinct, elementNames, namesOf};
 ghost use Rattle.opmsg.specs.declared.Verdict.the-variants.{Accepted};
-ghost use Rattle.opmsg.specs.Inner.{judged, Filled};
+ghost use Rattle.opmsg.specs.Inner.{judged, Filled, Flat};
 ghost use Rattle.opmsg_body_names.specs.Inner.{spread, slotOf, marked, marking, Marks};
+
+// What check 23 tells of a body: the verdict, and whether it has documents in it, or perhaps has.
+pub struct Names {
+    pub verdict: Verdict,
+    pub nested: bool,
+}
+
+// The type of an element whose value is a document.
+const DOCUMENT: u8 = 0x03;
 
 // How often marks are met in vain before tables are made.
 const VAIN: usize = 3;
@@ -23,6 +32,16 @@ const MANY: usize = 64;
 
 // The most bytes of a body whose names are likely to meet no mark.
 const LONG: usize = 0x1_0000;
+
+// A verdict on names, where nothing is known of documents.
+fn perhaps_nested(verdict: Verdict) -> Names
+    ensures { λ r. ⌜ (r .verdict ≡ verdict) × (r .nested ≡ true) ⌝ }
+{
+    Names {
+        verdict,
+        nested: true,
+    }
+}
 
 // Two texts are the same.
 pub fn same(a: &[u8], b: &[u8]) -> bool
@@ -181,21 +200,29 @@ fn compared(xs: &[u8], at: usize, marks: &mut [u64; 32]) -> Verdict
 }
 
 // Check 23 of a body's elements xs, the first at a place. Their names get marks: where none is met, the names differ.
-pub fn body_names(xs: &[u8], at: usize, marks: &mut [u64; 32]) -> Verdict
+pub fn body_names(xs: &[u8], at: usize, marks: &mut [u64; 32]) -> Names
     requires { ⌜ Filled (now xs) × (at + length (now xs) < 2 ^ 64) × (length (now marks) ≡ 32) ⌝ }
-    ensures is { λ r. ⌜ judged r ≡ distinct 23 never [] (elementNames (length (now (xs .entry))) at (now (xs .entry))) ⌝ }
-    ensures marked { λ r. ⌜ (r ≡ Accepted → Marks (namesOf (now (xs .entry))) (now (marks .exit))) ⌝ }
+    ensures is { λ r. ⌜ judged (r .verdict) ≡ distinct 23 never [] (elementNames (length (now (xs .entry))) at (now (xs .entry))) ⌝ }
+    ensures marked { λ r. ⌜ (r .verdict ≡ Accepted → Marks (namesOf (now (xs .entry))) (now (marks .exit))) ⌝ }
+    ensures flat { λ r. ⌜ (r .nested ≡ false → Flat (now (xs .entry))) ⌝ }
 {
     if LONG < xs.len() {
-        return compared(xs, at, marks);
+        return perhaps_nested(compared(xs, at, marks));
     }
+    let mut nested = false;
     let mut i: usize = 0;
     while i < xs.len() {
         let text = name(xs, i);
         if mark(marks, text) {
-            return compared(xs, at, marks);
+            return perhaps_nested(compared(xs, at, marks));
+        }
+        if xs[i] == DOCUMENT {
+            nested = true;
         }
         i = next(xs, i, text.len());
     }
-    Verdict::Accepted
+    Names {
+        verdict: Verdict::Accepted,
+        nested,
+    }
 }

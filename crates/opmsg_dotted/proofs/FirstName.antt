@@ -66,6 +66,21 @@ module _ (text : List ℕ) (i : ℕ) where
   unfolding untilDot
   past-all h = rw (drop-of-length-le text h)
 
+-- four bytes that are no dots
+pub past-four : (text : List ℕ) (i : ℕ) → i + 3 < length text → (getD text i 0 ≡ 0x2E → ⊥) → (getD text (i + 1) 0 ≡ 0x2E → ⊥) → (getD text (i + 2) 0 ≡ 0x2E → ⊥)
+    → (getD text (i + 3) 0 ≡ 0x2E → ⊥) → untilDot (drop i text) ≡ 4 + untilDot (drop (i + 4) text)
+past-four text i h a b c d =
+    let two : i + 1 + 1 ≡ i + 2 = omega arith in
+    let three : i + 2 + 1 ≡ i + 3 = omega arith in
+    let four : i + 3 + 1 ≡ i + 4 = omega arith in
+    omega (
+      arith,
+      past-byte text i (omega arith) (ne-eqb _ _ a),
+      rw two at (past-byte text (i + 1) (omega arith) (ne-eqb _ _ b)),
+      rw three at (past-byte text (i + 2) (omega arith) (ne-eqb _ _ c)),
+      rw four at (past-byte text (i + 3) h (ne-eqb _ _ d)),
+    )
+
 -- ---- the first name of a text and a name, from place i on
 
 pub first-short : (text name : List ℕ) → length text < length name → sameText (firstName text) name ≡ false

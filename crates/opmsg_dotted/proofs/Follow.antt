@@ -13,7 +13,7 @@ use borrow.Author.Tests.{ltb-true, ltb-false, lt-ltb, le-ltb, eq-eqb, ne-eqb}
 use Rattle.bson_elements.specs.Element.{elementSize}
 use Rattle.opmsg.specs.Names.{sameText, among, nameText, namesOf, elementNames, texts}
 use Rattle.opmsg.specs.Dotted.{untilDot, elementsWithin, someWithin, follow, found}
-use Rattle.opmsg.specs.Inner.{Filled, none, more}
+use Rattle.opmsg.specs.Inner.{Filled, none, more, Flat}
 use Rattle.opmsg_element_names.specs.Inner.{Read, textAt}
 use Rattle.opmsg_element_names.proofs.Texts.{neither, among-cons}
 use Rattle.opmsg_element_names.proofs.Names.{filled-next, filled-within, names-next, names-of}
@@ -174,6 +174,22 @@ module _ (text xs : List ℕ) (f : Filled xs) (l : 0 < length xs) where
 
       pub found-not-within : getD xs 0 0 ≡ 0x03 → found (elementsWithin xs) (rest text) ≡ false → found xs text ≡ others
       found-not-within t e = dotted-next h ∙ rw (s, eq-eqb _ _ t, e)
+
+-- a text with a dot, and an element that is no document
+pub found-passing : (text xs : List ℕ) → Filled xs → 0 < length xs → (getD xs 0 0 ≡ 0x03 → ⊥) → untilDot text < length text → found xs text ≡ found (drop (elementSize xs) xs) text
+found-passing text xs f l t h = go (sameText (firstName text) (nameText xs)) refl
+  where
+    go : (b : Bool) → sameText (firstName text) (nameText xs) ≡ b → found xs text ≡ found (drop (elementSize xs) xs) text
+    go true s = found-no-document text xs f l s h t
+    go false s = found-other text xs f l s
+
+-- a text that is no name is not found where no text with a dot is
+pub found-flat : (text xs : List ℕ) → Flat xs → among (namesOf xs) text ≡ false → found xs text ≡ false
+found-flat text xs none-found e = go (ltb (untilDot text) (length text)) refl
+  where
+    go : (b : Bool) → ltb (untilDot text) (length text) ≡ b → found xs text ≡ false
+    go true h = none-found text (ltb-true _ _ h)
+    go false h = found-plain text xs (ltb-false _ _ h) ∙ e
 
 -- no element has the name before the dot
 pub found-nowhere : (text xs : List ℕ) → Filled xs → untilDot text < length text → among (namesOf xs) (firstName text) ≡ false → found xs text ≡ false

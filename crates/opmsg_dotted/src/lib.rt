@@ -4,6 +4,7 @@ use opmsg_element_names::next;
 use wire::stretch;
 use wire::word;
 ghost use mathlib.Core.Path.{_≡_};
+ghost use Prim.Native.Nat.{_+_, _≤_};
 ghost use lib.ListN.{length, take, drop};
 ghost use Rattle.opmsg.specs.Names.{sameText};
 ghost use Rattle.opmsg.specs.Dotted.{untilDot, elementsWithin, found};
@@ -15,11 +16,34 @@ const DOT: u8 = 0x2E;
 // The type of an element whose value is a document.
 const DOCUMENT: u8 = 0x03;
 
+// How many bytes at a text's start are no dots, or some fewer: by four at a time.
+fn without_dots(text: &[u8]) -> usize
+    ensures { λ r. ⌜ (r ≤ length (now (text .entry))) × (untilDot (now (text .entry)) ≡ r + untilDot (drop r (now (text .entry)))) ⌝ }
+{
+    let mut i: usize = 0;
+    while 4 <= text.len() - i {
+        if text[i] == DOT {
+            return i;
+        }
+        if text[i + 1] == DOT {
+            return i;
+        }
+        if text[i + 2] == DOT {
+            return i;
+        }
+        if text[i + 3] == DOT {
+            return i;
+        }
+        i += 4;
+    }
+    i
+}
+
 // How many bytes of a text stand before its first dot; all where there is none.
 pub fn until_dot(text: &[u8]) -> usize
     ensures { λ r. ⌜ r ≡ untilDot (now (text .entry)) ⌝ }
 {
-    let mut i = 0;
+    let mut i = without_dots(text);
     while i < text.len() && text[i] != DOT {
         i += 1;
     }

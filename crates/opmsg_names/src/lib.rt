@@ -10,6 +10,7 @@ use opmsg_identifiers::at_range;
 use opmsg_identifiers::elements;
 use opmsg_identifiers::met;
 use opmsg_identifiers::reaches;
+ghost use mathlib.Core.Bool.{false};
 ghost use mathlib.Core.List.{List};
 ghost use mathlib.Core.Path.{_≡_};
 ghost use Prim.Native.Nat.{_+_, _-_, _^_, _<_, _≤_};
@@ -17,7 +18,7 @@ ghost use Rattle.opmsg.specs.Names.{distinct, part, identifiers, namesOf};
 ghost use Rattle.opmsg.specs.Dotted.{found};
 ghost use Rattle.opmsg.specs.declared.Section.{Section};
 ghost use Rattle.opmsg.specs.Read.{distinctNames};
-ghost use Rattle.opmsg.specs.Inner.{judged, firstSections, Shows, Filled};
+ghost use Rattle.opmsg.specs.Inner.{judged, firstSections, Shows, Filled, Flat};
 ghost use Rattle.opmsg_body_names.specs.Inner.{Marks};
 
 // Check 24, given the body's elements and the marks of their names. An identifier whose mark is met is compared, and one with a dot is
@@ -53,29 +54,31 @@ fn compared(
     Verdict::Accepted
 }
 
-// The same where identifiers have no dots and meet no marks, as most do: they differ.
+// The same where identifiers meet no marks, and lead nowhere, since they have no dots or there is no document: they differ, as most do.
 fn identifiers_differ(
     xs: &[u8],
     elements: &[u8],
-    given: [u64; 32],
+    marks: &mut [u64; 32],
+    nested: bool,
     entries: [Entry; 17],
     used: usize,
 ) -> Verdict
-    requires { ⌜ (used ≤ 17) × Filled (now elements) × Marks (namesOf (now elements)) given ⌝ }
+    requires { ⌜ (used ≤ 17) × Filled (now elements) × Marks (namesOf (now elements)) (now marks) × (nested ≡ false → Flat (now elements)) ⌝ }
     ensures { λ r. ⌜ judged r ≡ distinct 24 (found (now (elements .entry))) (namesOf (now (elements .entry))) (identifiers (now (xs .entry)) (firstSections used entries)) ⌝ }
 {
-    let mut marks = given;
     let mut k: usize = 0;
     while k < used {
         let entry = entries[k];
         let section = entry.section;
         if let Section::Sequence { identifier, .. } = section {
             let text = at_range(xs, identifier);
-            if mark(&mut marks, text) {
-                return compared(xs, elements, given, entries, used);
+            if mark(marks, text) {
+                return compared(xs, elements, *marks, entries, used);
             }
-            if until_dot(text) < text.len() {
-                return compared(xs, elements, given, entries, used);
+            if nested {
+                if until_dot(text) < text.len() {
+                    return compared(xs, elements, *marks, entries, used);
+                }
             }
         }
         k += 1;
@@ -101,12 +104,13 @@ pub fn distinct_names(
     }
     let content = elements(xs, body, body_length);
     let mut marks: [u64; 32] = [0; 32];
-    let verdict = body_names(content, body + 4, &mut marks);
+    let names = body_names(content, body + 4, &mut marks);
+    let verdict = names.verdict;
     let Verdict::Accepted = verdict else {
         return verdict;
     };
     if sequences == 0 {
         return Verdict::Accepted;
     }
-    identifiers_differ(xs, content, marks, entries, used)
+    identifiers_differ(xs, content, &mut marks, names.nested, entries, used)
 }

@@ -32,7 +32,7 @@ returns-2 c =
     let p3 = c .before .before .before in
     let p7 = p3 .before .before .before .before in
     let p9 = p7 .before .before in
-    sym (rw (c .before .verdict .given .1) at (body-named (p9 .before .before .args .body .now) (p9 .document .result) (p9 .document .ensures) (p7 .w .given .1) (p3 .body-names .result) (p3 .body-names .ensures .0)))
+    sym (rw (c .before .verdict .given .1) at (body-named (p9 .before .before .args .body .now) (p9 .document .result) (p9 .document .ensures) (p7 .w .given .1) (p3 .body-names .result .verdict) (p3 .body-names .ensures .0)))
 
 returns-3 : tie.Need-returns-3
 unfolding _>>=_
@@ -40,7 +40,7 @@ returns-3 c =
     let p2 = c .before .before in
     let p6 = p2 .before .before .before .before in
     let p8 = p6 .before .before in
-    sym (rw (c .enum-told2 .given .1) at (body-named (p8 .before .before .args .body .now) (p8 .document .result) (p8 .document .ensures) (p6 .w .given .1) (p2 .body-names .result) (p2 .body-names .ensures .0)))
+    sym (rw (c .enum-told2 .given .1) at (body-named (p8 .before .before .args .body .now) (p8 .document .result) (p8 .document .ensures) (p6 .w .given .1) (p2 .body-names .result .verdict) (p2 .body-names .ensures .0)))
 
 pub examine-body-spec : {M : Type 1} → statement M
 examine-body-spec =

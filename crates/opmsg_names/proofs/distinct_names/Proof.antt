@@ -39,20 +39,21 @@ returns-3 c =
 
 identifiers-differ-requires : tie.Need-identifiers-differ-requires
 identifiers-differ-requires c κs =
-    let b = c .before .before .before in
+    let q = c .before .before in
+    let b = q .before .before in
     let x = b .before .before in
-    let l = x .before in
-    let a = l .before .before in
-    (a .pre .0, rw (x .elements .ensures) (a .pre .2), b .body-names .ensures .1 (c .before .enum-told .given .1))
+    let a = x .before .before .before in
+    (a .pre .0, rw (x .elements .ensures) (a .pre .2), b .body-names .ensures .1 .0 (q .enum-told .given .1), b .body-names .ensures .1 .1)
 
 returns-4 : tie.Need-returns-4
 returns-4 c =
-    let b = c .before .before .before .before in
+    let q = c .before .before .before in
+    let b = q .before .before in
     let x = b .before .before in
     let l = x .before in
     let a = l .before .before in
     λ qs s. rw (x .elements .ensures) at (c .identifiers-differ .ensures)
-    ∙ sym (different s (a .args .xs .now) (a .pre .2) _ (l .if1 .left) (sym (rw (c .before .before .enum-told .given .1, x .elements .ensures) at (b .body-names .ensures .0))))
+    ∙ sym (different s (a .args .xs .now) (a .pre .2) _ (l .if1 .left) (sym (rw (q .enum-told .given .1, x .elements .ensures) at (b .body-names .ensures .0))))
 
 pub distinct-names-spec : {M : Type 1} → statement M
 distinct-names-spec =

@@ -9,24 +9,38 @@ use borrow.Author.Needs.{needs}
 use Rattle.opmsg.specs.Names.{identifiers, namesOf}
 use Rattle.opmsg.specs.Dotted.{found}
 use Rattle.opmsg_body_names.proofs.Texts.{neither}
-use Rattle.opmsg_body_names.proofs.Distinct.{Met, met-none}
-use Rattle.opmsg_dotted.proofs.Follow.{found-plain}
+use Rattle.opmsg_body_names.proofs.Distinct.{Met, met-none, met-base}
+use Rattle.opmsg_dotted.proofs.Follow.{found-plain, found-flat}
 use Rattle.opmsg_identifiers.proofs.Table.{firstIdentifiers, count, differ-all, differ-other, differ-unmarked, differ-new}
 use Rattle.opmsg_names.proofs.identifiers_differ.Statement.{statement}
 use Rattle.opmsg_names.proofs.identifiers_differ.Tie as tie
 
 abbrev Inv-loop : tie.InvT-loop
-Inv-loop xs elements given used entries marks₀ k₀ marks k =
+Inv-loop xs elements marks₀ nested used entries k₀ marks k =
     (length entries ≡ 17) × (k ≤ used) × Met 24 (found elements) (namesOf elements) (firstIdentifiers xs entries used) (count xs entries k) marks
 
 abbrev μ-loop : tie.MeasureT-loop
-μ-loop xs elements given used entries marks₀ k₀ marks k = used - k
+μ-loop xs elements marks₀ nested used entries k₀ marks k = used - k
 
 loop-holds : tie.Need-loop-holds Inv-loop μ-loop
 unfolding identifiers
 loop-holds c =
     let p2 = c .before .before in
-    (p2 .good .1 .1 .1 .0 .1 .0 .1, omega arith, met-none _ _ _ _ (p2 .pre .2))
+    (p2 .good .1 .1 .1 .1 .0 .1 .0 .1, omega arith, met-none _ _ _ _ (p2 .pre .2))
+
+compared-requires : tie.Need-compared-requires Inv-loop μ-loop
+compared-requires c κs =
+    let m = c .before .before in
+    let l = m .before .before .before .before .before .before .before .before in
+    let p = l .before .before .before .pre in
+    (p .0, p .1, rw (m .mark .ensures .1) (met-base _ _ _ _ _ (l .loop .inv .2) _))
+
+compared-requires-2 : tie.Need-compared-requires-2 Inv-loop μ-loop
+compared-requires-2 c κs =
+    let m = c .before .before .before .before .before in
+    let l = m .before .before .before .before .before .before .before .before in
+    let p = l .before .before .before .pre in
+    (p .0, p .1, rw (m .mark .ensures .1) (met-base _ _ _ _ _ (l .loop .inv .2) _))
 
 loop-again : tie.Need-loop-again Inv-loop μ-loop
 loop-again c =
@@ -39,9 +53,14 @@ loop-again c =
       ⊎-elim
           (λ w.
           let new = differ-unmarked xs _ _ _ _ _ m (l .loop .inv .1) (t .loop-test .taken) (omega arith) (w .1 .given .1) _ (w .3 .ensures) (sym (w .5 .ensures .0) ∙ w .6 .left) in
-          rw (w .9, w .5 .ensures .1) (differ-new xs _ _ _ _ _ m (l .loop .inv .1) (t .loop-test .taken) (omega arith) (w .1 .given .1) _ (w .3 .ensures) new
-          (found-plain _ _ (omega (arith, w .7 .ensures, w .8 .left)) ∙ neither _ _ new .0)))
-          (λ w. rw (w .1) (differ-other xs _ _ _ _ _ m (l .loop .inv .1) (t .loop-test .taken) (omega arith) (w .0 .keys2)))
+          rw (w .10, w .5 .ensures .1) (differ-new xs _ _ _ _ _ m (l .loop .inv .1) (t .loop-test .taken) (omega arith) (w .1 .given .1) _ (w .3 .ensures) new
+          (found-plain _ _ (omega (arith, w .8 .ensures, w .9 .left)) ∙ neither _ _ new .0)))
+          (⊎-elim
+          (λ w.
+          let new = differ-unmarked xs _ _ _ _ _ m (l .loop .inv .1) (t .loop-test .taken) (omega arith) (w .1 .given .1) _ (w .3 .ensures) (sym (w .5 .ensures .0) ∙ w .6 .left) in
+          rw (w .8, w .5 .ensures .1) (differ-new xs _ _ _ _ _ m (l .loop .inv .1) (t .loop-test .taken) (omega arith) (w .1 .given .1) _ (w .3 .ensures) new
+          (found-flat _ _ (l .before .before .before .pre .3 (w .7 .left)) (neither _ _ new .0))))
+          (λ w. rw (w .1) (differ-other xs _ _ _ _ _ m (l .loop .inv .1) (t .loop-test .taken) (omega arith) (w .0 .keys2))))
           (c .match .came),
     )
 
@@ -60,10 +79,10 @@ identifiers-differ-spec =
     (λ c. search needs)
     (λ c κs. search needs)
     (λ c κs. c .before .before .before .before .before .before .before .loop .inv .2 .marked .size)
-    (λ c κs. c .before .before .before .before .before .before .before .before .before .before .before .before .pre)
+    compared-requires
     (λ c. c .compared .ensures)
     (λ c κs. search needs)
-    (λ c κs. c .before .before .before .before .before .before .before .before .before .before .before .before .before .before .pre)
+    compared-requires-2
     (λ c. c .compared2 .ensures)
     (λ c. search needs)
     (λ c. omega arith)
