@@ -115,7 +115,7 @@ module _ (k : ℕ) (document : Reader ℕ) (complete : Complete (Document k) doc
   value-complete (Value.embedded m d) = embedded-complete m d
   value-complete (Value.scoped m s d small) = scoped-complete m s d small
 
-  element-complete : Complete (Element k) (element document)
+  pub element-complete : Complete (Element k) (element document)
   unfolding element head
   element-complete at es rest count held (Element.element {t} {n} {name} {xs} text value) h =
       let whole : List ℕ = t ∷ name ++ xs ++ rest in

@@ -31,7 +31,7 @@ parted c xs low fits b z =
     (total, rw (total, e, take-add 4 (suc n) xs, ← le32-word xs b four, take-suc (drop 4 xs) n 0, getD-drop 4 xs n, z))
 
 -- what stands before a zero
-before : (xs rest : List ℕ) → take (length xs) (xs ++ 0 ∷ [] ++ rest) ≡ xs
+pub before : (xs rest : List ℕ) → take (length xs) (xs ++ 0 ∷ [] ++ rest) ≡ xs
 before xs rest = ap (take (length xs)) (append-assoc xs (0 ∷ []) rest) ∙ take-at xs (0 ∷ rest) (length xs) refl
 
 pub joined : (w : ℕ) (xs rest : List ℕ) → w < 2 ^ 32
@@ -49,7 +49,7 @@ joined w xs rest h = (
 
 -- ---- zero-ended strings
 
-none-before : (xs : List ℕ) → ¬ (0 ∈ take (untilZero xs) xs)
+pub none-before : (xs : List ℕ) → ¬ (0 ∈ take (untilZero xs) xs)
 unfolding untilZero
 none-before [] = List·Memᴰ·not-nil
 none-before (x ∷ xs) = go (eqb x 0) refl (none-before xs)
@@ -61,7 +61,7 @@ none-before (x ∷ xs) = go (eqb x 0) refl (none-before xs)
 pub zero-ended : (xs : List ℕ) → untilZero xs < length xs → Utf8 (take (untilZero xs) xs) → ZeroEnded (take (suc (untilZero xs)) xs)
 zero-ended xs h u = rw (take-suc xs (untilZero xs) 0 h, until-zero xs h) (ZeroEnded.ended (take (untilZero xs) xs) (none-before xs) u)
 
-until-first : (xs rest : List ℕ) → ¬ (0 ∈ xs) → untilZero (xs ++ 0 ∷ [] ++ rest) ≡ length xs
+pub until-first : (xs rest : List ℕ) → ¬ (0 ∈ xs) → untilZero (xs ++ 0 ∷ [] ++ rest) ≡ length xs
 until-first [] rest h = until-stop 0 rest refl
 until-first (x ∷ xs) rest h = until-go x _ (ne-eqb x 0 (λ z. h (List·Memᴰ·head (sym z)))) ∙ ap suc (until-first xs rest (λ m. h (List·Memᴰ·tail m)))
 

@@ -106,7 +106,7 @@ module _ (text xs : List ℕ) where
 
 -- ---- a text and the elements, one after the other
 
-names-first : (xs : List ℕ) → Filled xs → 0 < length xs → namesOf xs ≡ nameText xs ∷ namesOf (drop (elementSize xs) xs)
+pub names-first : (xs : List ℕ) → Filled xs → 0 < length xs → namesOf xs ≡ nameText xs ∷ namesOf (drop (elementSize xs) xs)
 unfolding namesOf texts
 names-first xs f l =
     let p = filled-next f l in

@@ -44,7 +44,7 @@ parted text h =
 
 -- ---- what is found leads to a name
 
-on : (xs text : List ℕ) → 0 < length xs → Leads (drop (elementSize xs) xs) text → Leads xs text
+pub on : (xs text : List ℕ) → 0 < length xs → Leads (drop (elementSize xs) xs) text → Leads xs text
 on xs text l (there e w) = there (later l e) w
 on xs text l (within e w t inner) = within (later l e) w t inner
 
@@ -87,7 +87,7 @@ module _ (text : List ℕ) (deeper : untilDot text < length text → Sound (rest
           named false h =
               subst (Leads xs) (sym same ∙ take-all (untilDot text) text (ltb-false _ _ h)) (there (first some) (rw same at (firsts text)))
 
-sound : (n : ℕ) (text : List ℕ) → length text < n → Sound text
+pub sound : (n : ℕ) (text : List ℕ) → length text < n → Sound text
 sound zero text l = absurd (omega arith)
 sound (suc n) text l = by-element text (λ h. sound n (rest text) (omega (arith, length-drop (untilDot text + 1) text)))
 
@@ -97,7 +97,7 @@ reach : {xs ys : List ℕ} (text : List ℕ) → ElementOf ys xs → Filled xs �
 reach text (first l) f h = h f l
 reach {xs} text (later l e) f h = found-later text xs f l (reach text e (filled-next f l .2) h)
 
-complete : {xs text : List ℕ} → Leads xs text → Filled xs → found xs text ≡ true
+pub complete : {xs text : List ℕ} → Leads xs text → Filled xs → found xs text ≡ true
 complete (there {xs} {ys} e w) f =
     let name = nameText ys in
     let dots : untilDot name ≡ length name = unfold untilDot in omega (arith, rw (append-nil name) at (plain-dots name [] w)) in

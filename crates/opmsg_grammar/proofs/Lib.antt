@@ -1,0 +1,7 @@
+pub mod Differ
+pub mod Names
+pub mod Sound
+pub mod Complete
+pub mod Trees
+pub mod Form
+pub mod Reading
