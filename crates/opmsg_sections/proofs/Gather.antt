@@ -149,7 +149,7 @@ module _ {e : Edition} {xs : List ℕ} {i start size : ℕ} {entries : List Entr
           }
 
     -- a sequence
-    module _ {a d : Range} {m n c : ℕ} (h : r ≡ Part.Sequenced a d m n c) where
+    module _ {m n c : ℕ} {a d : Range} (h : r ≡ Part.Sequenced m n c a d) where
       sequence-read : sectionAt e (20 + i) (take (length xs - i) (drop i xs)) (k .parts) ≡ ok (record { size = n; state = record { sections = k .parts .sections ++ (Sequence a d m ∷ []); elements = c } })
       sequence-read = sym answered ∙ ap (partOf (20 + i) (k .parts)) h
 

@@ -14,13 +14,13 @@ use Rattle.opmsg_sequences.specs.declared.Part.{Part}
 -- a section at a place, behind those passed
 abbrev pub partOf : ℕ → Parts → Part → Outcome (Step Parts)
 partOf at p (Part.Body size elements) = behind p (1 + size) (bodyAt at size) elements
-partOf at p (Part.Sequenced identifier documents number size elements) = behind p size (Sequence identifier documents number) elements
+partOf at p (Part.Sequenced number size elements identifier documents) = behind p size (Sequence identifier documents number) elements
 partOf at p (Part.Refused number place) = refused number place
 
 -- it lies within xs, which begin with its kind byte, and elements fill a body
 abbrev pub PartWithin : List ℕ → Part → Type 0
 PartWithin xs (Part.Body size elements) = (5 ≤ size) × (1 + size ≤ lib.ListN.length xs) × Filled (take (size - 5) (drop 5 xs))
-PartWithin xs (Part.Sequenced identifier documents number size elements) = (6 ≤ size) × (size ≤ lib.ListN.length xs)
+PartWithin xs (Part.Sequenced number size elements identifier documents) = (6 ≤ size) × (size ≤ lib.ListN.length xs)
 PartWithin xs (Part.Refused number place) = Unit {0}
 
 -- the numbers that a section's reader wants of those passed: a body's start, the number of sequences, the elements counted

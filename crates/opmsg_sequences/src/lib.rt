@@ -16,18 +16,18 @@ ghost use Rattle.opmsg_sequences.specs.Inner.{partOf, PartWithin, Passed
 pub const MAX_SEQUENCES: usize = 16;
 
 // What a section adds to those before it: a body of `size` bytes behind the kind byte, or a sequence whose section has `size` bytes;
-// and the elements counted by now. Or a refusal.
+// and the elements counted by now. Or a refusal. What the variants share stands first: at one place in each, it stays in registers.
 pub enum Part {
     Body {
         size: usize,
         elements: u32,
     },
     Sequenced {
-        identifier: Range,
-        documents: Range,
         number: u32,
         size: usize,
         elements: u32,
+        identifier: Range,
+        documents: Range,
     },
     Refused {
         number: u32,
@@ -64,11 +64,11 @@ fn sequence_documents(xs: &[u8], at: usize, n: usize, size: usize, elements: u32
                 length: (end - start) as u32,
             };
             Part::Sequenced {
-                identifier,
-                documents,
                 number,
                 size: end,
                 elements: counted,
+                identifier,
+                documents,
             }
         }
         Counted::Refused { number, place } => Part::Refused { number, place },

@@ -1,16 +1,18 @@
 -- Laws of characters of one byte: a run of them by its parts, and bytes looked at together, four in a word or more by `|`.
 -- Assumes nothing.
 use Prim.Native.Nat.{ℕ, zero, suc, _+_, _-_, _*_, _/_, _%_, _≤_, _<_}
-use mathlib.Core.Path.{_≡_, sym, _∙_}
+use mathlib.Core.Path.{_≡_, sym, ap, _∙_}
 use mathlib.Core.List.{List, [], _∷_}
 use native.Mathlib.Omega.{arith}
 use native.Mathlib.Nat.{mod-eq-of-lt}
 use native.Mathlib.Decide.{decLt}
-use lib.ListN.{length, getD, take, drop}
-use lib.Seq.{getD-take}
+use lib.ListN.{length, getD, take, drop, length-drop}
+use lib.Seq.{getD-take, drop-drop}
 use lib.Bits.{bitAnd, bitOr, and-block, and-high, and-le-l, and-le-r, or-add-and}
 use borrow.Author.Count.{below-none, below-more}
-use Rattle.wire.specs.Bytes.{Bytes, word}
+use borrow.Author.Tests.{ne-eqb}
+use Rattle.wire.specs.Bytes.{Bytes, word, untilZero}
+use Rattle.wire.proofs.Bytes.{past-byte}
 use Rattle.wire.proofs.Parts.{rest-part}
 use Rattle.utf8.specs.Inner.{Ascii}
 
@@ -31,6 +33,45 @@ ascii-one xs h = below-more (λ i. getD xs i 0 < 0x80) 0 (below-none _) h
 -- a run in the front `&xs[..m]`
 pub ascii-front : (m n : ℕ) (xs : List ℕ) → n ≤ m → Ascii n (take m xs) → Ascii n xs
 ascii-front m n xs l a i h = let k : i < m = omega arith in rw getD-take at (a i h)
+
+-- ---- a run of them before the first zero
+
+abbrev pub PlainRun : (n : ℕ) → List ℕ → Type 0
+PlainRun n xs = Ascii n xs × ((n ≤ length xs) × (untilZero xs ≡ n + untilZero (drop n xs)))
+
+abbrev pub PlainAt : (i : ℕ) → List ℕ → Type 0
+PlainAt i xs = (0 < getD xs i 0) × (getD xs i 0 < 0x80)
+
+pub plain-none : (xs : List ℕ) → PlainRun 0 xs
+plain-none xs = (below-none _, omega arith)
+
+module _ (xs : List ℕ) (i : ℕ) (run : PlainRun i xs) where
+  pub plain-one : i < length xs → PlainAt i xs → PlainRun (i + 1) xs
+  plain-one h a =
+      let past = past-byte xs i h (ne-eqb (getD xs i 0) 0 (λ e. omega arith)) in
+      (below-more (λ j. getD xs j 0 < 0x80) i (run .0) (a .1), omega arith)
+
+-- up to four more
+module _ (xs : List ℕ) (i : ℕ) (run : PlainRun i xs) (fits : i + 4 ≤ length xs) (a : PlainAt i xs) where
+  pub plain-first : PlainRun (i + 1) xs
+  plain-first = plain-one xs i run (omega arith) a
+
+  module _ (b : PlainAt (i + 1) xs) where
+    pub plain-second : PlainRun (i + 2) xs
+    plain-second = let e : i + 2 ≡ i + 1 + 1 = omega arith in rw e (plain-one xs (i + 1) plain-first (omega arith) b)
+
+    module _ (c : PlainAt (i + 2) xs) where
+      pub plain-third : PlainRun (i + 3) xs
+      plain-third = let e : i + 3 ≡ i + 2 + 1 = omega arith in rw e (plain-one xs (i + 2) plain-second (omega arith) c)
+
+      pub plain-fourth : PlainAt (i + 3) xs → PlainRun (i + 4) xs
+      plain-fourth d = let e : i + 4 ≡ i + 3 + 1 = omega arith in rw e (plain-one xs (i + 3) plain-third (omega arith) d)
+
+-- and a run in the part `&xs[m..]`
+pub plain-part : (m n : ℕ) (xs : List ℕ) → PlainRun m xs → PlainRun n (take (length xs - m) (drop m xs)) → PlainRun (m + n) xs
+plain-part m n xs p q =
+    let r : (n ≤ length (drop m xs)) × (untilZero (drop m xs) ≡ n + untilZero (drop n (drop m xs))) = rw rest-part at (q .1) in
+    (ascii-part m n xs (p .0) (q .0), omega (arith, length-drop m xs, ap untilZero (drop-drop n m xs)))
 
 -- bytes taken together: none is above what they make
 pub gathered : (xs : List ℕ) (k all : ℕ) → ((i : ℕ) → i < k → getD xs i 0 ≤ all) → (i : ℕ) → i < k + 1 → getD xs i 0 ≤ bitOr all (getD xs k 0)

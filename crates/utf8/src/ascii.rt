@@ -100,14 +100,45 @@ pub(crate) fn run(s: &[u8]) -> usize
     4 + words(&s[4..])
 }
 
-// How many of them, other than zero, s begins with.
+// A byte is one, other than zero.
+fn plain(x: u8) -> bool
+    ensures { λ r. ⌜ (r ≡ true → (0 < x) × (x < 0x80)) ⌝ }
+{
+    0 < x && x < 0x80
+}
+
+// How many of them, other than zero, s begins with: byte by byte.
+fn plain_bytes(s: &[u8]) -> usize
+    ensures is { λ r. ⌜ Ascii r (now (s .entry)) ⌝ }
+    ensures before { λ r. ⌜ (r ≤ length (now (s .entry))) × (untilZero (now (s .entry)) ≡ r + untilZero (drop r (now (s .entry)))) ⌝ }
+{
+    let mut i = 0;
+    while i < s.len() && plain(s[i]) {
+        i += 1;
+    }
+    i
+}
+
+// The same by four bytes at a time, since most names are short and many are read.
 pub(crate) fn until_zero(s: &[u8]) -> usize
     ensures is { λ r. ⌜ Ascii r (now (s .entry)) ⌝ }
     ensures before { λ r. ⌜ (r ≤ length (now (s .entry))) × (untilZero (now (s .entry)) ≡ r + untilZero (drop r (now (s .entry)))) ⌝ }
 {
     let mut i = 0;
-    while i < s.len() && 0 < s[i] && s[i] < 0x80 {
-        i += 1;
+    while 4 <= s.len() - i {
+        if !plain(s[i]) {
+            return i;
+        }
+        if !plain(s[i + 1]) {
+            return i + 1;
+        }
+        if !plain(s[i + 2]) {
+            return i + 2;
+        }
+        if !plain(s[i + 3]) {
+            return i + 3;
+        }
+        i += 4;
     }
-    i
+    i + plain_bytes(&s[i..])
 }
