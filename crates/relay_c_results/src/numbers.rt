@@ -5,9 +5,8 @@ ghost use mathlib.Core.List.{[], _∷_, _++_};
 ghost use mathlib.Core.Path.{_≡_};
 ghost use Prim.Native.Nat.{_+_, _≤_};
 ghost use lib.IntN.{pos};
-ghost use lib.ListN.{length, take, drop, replicate};
-ghost use Rattle.opmsg.proofs.Entries.{noEntry};
-ghost use Rattle.relay_c_results.specs.Numbers.{sectionNumbers, listNumbers, viewNumbers, viewSize};
+ghost use lib.ListN.{length, take, drop};
+ghost use Rattle.relay_c_results.specs.Numbers.{sectionNumbers, viewNumbers, viewSize};
 
 // Six numbers, at a place: a kind, and five that have no sign.
 fn six(out: &mut [i64], at: usize, kind: i64, a: u32, b: u32, c: u32, d: u32, e: u32)
@@ -47,37 +46,7 @@ fn entry(out: &mut [i64], at: usize, section: Section)
     }
 }
 
-// The numbers of a list whose entries all say none, from the fifth on.
-fn blank(out: &mut [i64])
-    requires { ⌜ 107 ≤ length (now out) ⌝ }
-    ensures { λ _. ⌜ now (out .exit) ≡ take 5 (now (out .entry)) ++ listNumbers (replicate 17 noEntry) ++ drop 107 (now (out .entry)) ⌝ }
-{
-    let mut i: usize = 0;
-    while i < 17 {
-        six(out, 5 + 6 * i, -1, 0, 0, 0, 0, 0);
-        i += 1;
-    }
-}
-
-// The numbers of all entries. Most say none, so those are stored first, at once.
-fn list(out: &mut [i64], v: View)
-    requires { ⌜ 107 ≤ length (now out) ⌝ }
-    ensures { λ _. ⌜ now (out .exit) ≡ take 5 (now (out .entry)) ++ listNumbers (v .entries) ++ drop 107 (now (out .entry)) ⌝ }
-{
-    blank(out);
-    let mut i: usize = 0;
-    while i < 17 {
-        let x = v.entries[i];
-        let section = x.section;
-        match section {
-            Section::None => {}
-            _ => entry(out, 5 + 6 * i, section),
-        }
-        i += 1;
-    }
-}
-
-// The numbers of a view, at the start of what is lent.
+// The numbers of a view, at the start of what is lent. Most entries say none, so that is tested first.
 pub fn show(v: View, out: &mut [i64])
     requires { ⌜ viewSize ≤ length (now out) ⌝ }
     ensures { λ _. ⌜ now (out .exit) ≡ viewNumbers v ++ drop viewSize (now (out .entry)) ⌝ }
@@ -87,5 +56,14 @@ pub fn show(v: View, out: &mut [i64])
     out[2] = v.response_to as i64;
     out[3] = v.flags as i64;
     out[4] = v.elements as i64;
-    list(out, v);
+    let mut i: usize = 0;
+    while i < 17 {
+        let x = v.entries[i];
+        let section = x.section;
+        match section {
+            Section::None => six(out, 5 + 6 * i, -1, 0, 0, 0, 0, 0),
+            _ => entry(out, 5 + 6 * i, section),
+        }
+        i += 1;
+    }
 }
