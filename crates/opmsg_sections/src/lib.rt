@@ -10,10 +10,12 @@ use opmsg::no_entries;
 use opmsg_sequences::Part;
 use opmsg_sequences::refused;
 use opmsg_sequences::sequence_section;
+ghost use mathlib.Core.List.{[]};
 ghost use mathlib.Core.Path.{_≡_};
 ghost use Prim.Native.Nat.{ℕ, _+_, _^_, _<_};
 ghost use lib.ListN.{length};
 ghost use Rattle.opmsg.specs.Sections.{Parts, bodySection, sectionAt};
+ghost use Rattle.opmsg.specs.View.{padded};
 ghost use Rattle.opmsg_sequences.specs.Inner.{partOf, PartWithin, PassedNumbers};
 ghost use Rattle.opmsg_sections.specs.Inner.{SectionsTold};
 
@@ -56,7 +58,7 @@ fn section(e: Edition, xs: &[u8], at: usize, start: usize, sequences: usize, ele
 
 // No sections, with a verdict.
 fn nothing(verdict: Verdict) -> Content
-    ensures { λ r. ⌜ r .verdict ≡ verdict ⌝ }
+    ensures { λ r. ⌜ (r .verdict ≡ verdict) × (r .entries ≡ padded []) ⌝ }
 {
     let entries = no_entries();
     Content {
@@ -70,17 +72,17 @@ fn nothing(verdict: Verdict) -> Content
     }
 }
 
-// All sections of a message; xs are their bytes, which start at 20.
+// All sections of a message; xs are their bytes, which start at 20. Entries are stored where they are kept, since a list is dear to copy.
 pub fn sections(e: Edition, xs: &[u8]) -> Content
     requires { ⌜ length (now xs) < 2 ^ 30 ⌝ }
     ensures { λ r. ⌜ SectionsTold e (now (xs .entry)) r ⌝ }
 {
+    let mut c = nothing(Verdict::Accepted);
     let mut i = 0;
     let mut body = 0;
     let mut body_length = 0;
     let mut used = 0;
     let mut sequences = 0;
-    let mut entries = no_entries();
     let mut elements = 0;
     while i < xs.len() {
         let at = 20 + i;
@@ -96,24 +98,24 @@ pub fn sections(e: Edition, xs: &[u8]) -> Content
                     length: size as u32,
                 };
                 let section = Section::Body(range);
-                entries[used] = Entry { section };
+                c.entries[used] = Entry { section };
                 used += 1;
                 elements = counted;
                 i += 1 + size;
             }
             Part::Sequenced {
-                identifier,
-                documents,
                 number,
                 size,
                 elements: counted,
+                identifier,
+                documents,
             } => {
                 let section = Section::Sequence {
                     identifier,
                     documents,
                     number,
                 };
-                entries[used] = Entry { section };
+                c.entries[used] = Entry { section };
                 used += 1;
                 sequences += 1;
                 elements = counted;
@@ -124,13 +126,10 @@ pub fn sections(e: Edition, xs: &[u8]) -> Content
             }
         }
     }
-    Content {
-        verdict: Verdict::Accepted,
-        body,
-        body_length,
-        used,
-        sequences,
-        entries,
-        elements,
-    }
+    c.body = body;
+    c.body_length = body_length;
+    c.used = used;
+    c.sequences = sequences;
+    c.elements = elements;
+    c
 }
