@@ -21,40 +21,8 @@ ghost use Rattle.opmsg.specs.Read.{distinctNames};
 ghost use Rattle.opmsg.specs.Inner.{judged, firstSections, Shows, Filled, Flat};
 ghost use Rattle.opmsg_body_names.specs.Inner.{Marks};
 
-// Check 24, given the body's elements and the marks of their names. An identifier whose mark is met is compared, and one with a dot is
-// followed.
-fn compared(
-    xs: &[u8],
-    elements: &[u8],
-    given: [u64; 32],
-    entries: [Entry; 17],
-    used: usize,
-) -> Verdict
-    requires { ⌜ (used ≤ 17) × Filled (now elements) × Marks (namesOf (now elements)) given ⌝ }
-    ensures { λ r. ⌜ judged r ≡ distinct 24 (found (now (elements .entry))) (namesOf (now (elements .entry))) (identifiers (now (xs .entry)) (firstSections used entries)) ⌝ }
-{
-    let mut marks = given;
-    let mut k: usize = 0;
-    while k < used {
-        let entry = entries[k];
-        let section = entry.section;
-        if let Section::Sequence { identifier, .. } = section {
-            let text = at_range(xs, identifier);
-            if mark(&mut marks, text) {
-                if met(xs, elements, entries, k, text) {
-                    return refused(24, identifier.start as usize);
-                }
-            }
-            if reaches(elements, &marks, text) {
-                return refused(24, identifier.start as usize);
-            }
-        }
-        k += 1;
-    }
-    Verdict::Accepted
-}
-
-// The same where identifiers meet no marks, and lead nowhere, since they have no dots or there is no document: they differ, as most do.
+// Check 24, given the body's elements, the marks of their names, and whether documents are among them. An identifier whose mark is met is
+// compared, and one with a dot is followed where there is a document.
 fn identifiers_differ(
     xs: &[u8],
     elements: &[u8],
@@ -73,11 +41,15 @@ fn identifiers_differ(
         if let Section::Sequence { identifier, .. } = section {
             let text = at_range(xs, identifier);
             if mark(marks, text) {
-                return compared(xs, elements, *marks, entries, used);
+                if met(xs, elements, entries, k, text) {
+                    return refused(24, identifier.start as usize);
+                }
             }
             if nested {
                 if until_dot(text) < text.len() {
-                    return compared(xs, elements, *marks, entries, used);
+                    if reaches(elements, marks, text) {
+                        return refused(24, identifier.start as usize);
+                    }
                 }
             }
         }
