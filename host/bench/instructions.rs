@@ -17,17 +17,19 @@
 //! - `copy` copies the message, and looks at nothing in it.
 //!
 //! Without arguments it lists the messages with their lengths, and says which
-//! have a checksum and which have identifiers with dots, those with the lengths
-//! of their bodies.
+//! have a checksum, which have identifiers with dots, those with the lengths of
+//! their bodies, and which have as many identifiers without dots.
 
 #[path = "../tests/common/mod.rs"]
 mod common;
 #[allow(dead_code)]
 mod mix;
 
+use common::bson::{document, element};
 use common::dotted;
 use common::message::{get_u32, with_flags};
 use common::names::{message_of, Family};
+use common::reference::MAX_SEQUENCES;
 use relay::{ffi, Edition, MAX_LENGTH, VIEW_NUMBERS};
 use std::env;
 use std::hint::black_box;
@@ -62,8 +64,8 @@ struct Message {
 }
 
 /// The messages of the benchmark, the smaller insert with a checksum, three
-/// with usual names, and those with 16 identifiers that are followed in vain
-/// through bodies of all lengths.
+/// with usual names, those with 16 identifiers that are followed in vain
+/// through bodies of all lengths, and small ones with 16 that have no dots.
 fn messages() -> Vec<Message> {
     let mut messages: Vec<Message> = mix::mix()
         .into_iter()
@@ -95,7 +97,33 @@ fn messages() -> Vec<Message> {
             sequences: identifiers.len() as u32,
         }
     }));
+    for (name, nested) in [("sequences", false), ("nested", true)] {
+        messages.extend([1, 3, 9, 2_900].map(|length| Message {
+            name: format!("{name}-{length}"),
+            bytes: with_sequences(nested, length),
+            sequences: MAX_SEQUENCES as u32,
+        }));
+    }
     messages
+}
+
+/// A ping and 16 sequences of no documents, whose identifiers have this length
+/// and no dots. They are looked at for dots where a document is nested.
+fn with_sequences(nested: bool, length: usize) -> Vec<u8> {
+    let mut body = element(0x10, b"ping", &1_i32.to_le_bytes());
+    if nested {
+        body.extend(element(0x03, b"lsid", &document(b"")));
+    }
+    let identifiers: Vec<Vec<u8>> = (0..MAX_SEQUENCES)
+        .map(|index| {
+            let first = b'a' + index as u8;
+            let letter = |place| b'a' + ((7 * place + 3 * index) % 23) as u8;
+            (0..length)
+                .map(|place| if place == 0 { first } else { letter(place) })
+                .collect()
+        })
+        .collect();
+    dotted::with_identifiers(document(&body), &identifiers)
 }
 
 fn list() {
@@ -103,6 +131,8 @@ fn list() {
         let mark = if name.starts_with("dotted") {
             let view = relay::read(&HOUSE, &bytes).expect("accepted");
             format!("dotted {}", view.body().len())
+        } else if name.starts_with("sequences") || name.starts_with("nested") {
+            "plain".to_string()
         } else if get_u32(&bytes, 16) & 1 == 1 {
             "sealed".to_string()
         } else {

@@ -16,6 +16,10 @@
 # through all of the body. `undotted` is a read of the same message without the
 # dots, so `followed` is what following takes. By the bytes of the body it should
 # stay level.
+#
+# The fourth table is of pings with 16 sequences of no documents, by the length of
+# their identifiers, which have no dots. Beside a document, `nested`, each of them
+# is looked at for a dot, and `more` is what that and the document take.
 set -eu
 cd "$(dirname "$0")/.."
 cargo build --quiet --release --example instructions
@@ -41,12 +45,17 @@ one() {
 
 sealed=$(mktemp)
 dotted=$(mktemp)
-trap 'rm -f "$sealed" "$dotted"' EXIT
+plain=$(mktemp)
+trap 'rm -f "$sealed" "$dotted" "$plain"' EXIT
 printf '%-14s%7s%10s%10s%10s%10s%8s\n' message bytes read forward cleared move copy
 "$program" | while read -r name bytes mark body; do
     read=$(one read "$name")
     if [ "$mark" = dotted ]; then
         echo "$name $bytes $body $read $(one undotted "$name")" >> "$dotted"
+        continue
+    fi
+    if [ "$mark" = plain ]; then
+        echo "$name $bytes $read" >> "$plain"
         continue
     fi
     forward=$(one forward "$name")
@@ -84,3 +93,13 @@ awk '
             $1, $2, $3, $4, $5, followed, followed / $3
     }
 ' "$dotted"
+echo
+awk '
+    BEGIN { printf "%-14s%7s%10s%10s%10s\n", "identifiers", "bytes", "read", "nested", "more" }
+    { split($1, part, "-") }
+    part[1] == "sequences" { bytes[part[2]] = $2; read[part[2]] = $3 }
+    part[1] == "nested" {
+        size = part[2]
+        printf "%-14s%7d%10d%10d%10d\n", size, bytes[size], read[size], $3, $3 - read[size]
+    }
+' "$plain"

@@ -1,12 +1,12 @@
 -- Numbers stored one after the other, and rows of them one behind the other.
 -- Assumes nothing.
-use Prim.Native.Nat.{ℕ, zero, suc, _+_, _-_, _*_, _^_, _≤_, _<_}
+use Prim.Native.Nat.{ℕ, suc, _+_, _*_, _^_, _≤_, _<_}
 use mathlib.Core.Path.{_≡_, refl, sym, ap, ap₂, _∙_}
 use mathlib.Core.List.{List, [], _∷_, _++_, append-assoc, append-nil}
 use native.Mathlib.Omega.{arith}
 use native.Mathlib.Numerals.{add-one}
-use lib.ListN.{length, getD, take, drop, set, replicate, length-append, length-take, length-drop, length-replicate, take-append-drop}
-use lib.Seq.{sets-eq, take-suc, take-all, length-take-le, take-at, drop-at, drop-append-add, drop-drop}
+use lib.ListN.{length, getD, take, drop, set, length-append, length-take, length-drop, take-append-drop}
+use lib.Seq.{sets-eq, take-suc, take-all, take-at, drop-append-add, drop-drop}
 use lib.IntN.{ℤ, pos, negsuc}
 use mir.Syntax.{w32, w64}
 use mir.Val.{SFits, toZ, ofZ}
@@ -107,7 +107,7 @@ module _ {old : List ℤ} {xs : List Entry} {i : ℕ} {now : List ℤ} (k : List
         room = k .room;
         within = omega arith;
         is = e ∙ ap₂ (λ (a b : List ℤ). a ++ sectionNumbers q ++ b) first rest
-        ∙ rw (one-more xs i (omega (arith, k .all)), said) (ap (λ (a : List ℤ). a ++ drop (5 + 6 * (i + 1)) old) (append-assoc (take 5 old) (listNumbers (take i xs)) (sectionNumbers q)));
+            ∙ rw (one-more xs i (omega (arith, k .all)), said) (ap (λ (a : List ℤ). a ++ drop (5 + 6 * (i + 1)) old) (append-assoc (take 5 old) (listNumbers (take i xs)) (sectionNumbers q)));
       }
 
   -- all of them

@@ -100,6 +100,18 @@ pub(crate) fn run(s: &[u8]) -> usize
     4 + words(&s[4..])
 }
 
+// How many of them, other than zero, s begins with.
+fn until_zero(s: &[u8]) -> usize
+    ensures is { λ r. ⌜ Ascii r (now (s .entry)) ⌝ }
+    ensures before { λ r. ⌜ (r ≤ length (now (s .entry))) × (untilZero (now (s .entry)) ≡ r + untilZero (drop r (now (s .entry)))) ⌝ }
+{
+    let mut i = 0;
+    while i < s.len() && 0 < s[i] && s[i] < 0x80 {
+        i += 1;
+    }
+    i
+}
+
 // A byte is one, other than zero.
 fn plain(x: u8) -> bool
     ensures { λ r. ⌜ (r ≡ true → (0 < x) × (x < 0x80)) ⌝ }
@@ -107,20 +119,8 @@ fn plain(x: u8) -> bool
     0 < x && x < 0x80
 }
 
-// How many of them, other than zero, s begins with: byte by byte.
-fn plain_bytes(s: &[u8]) -> usize
-    ensures is { λ r. ⌜ Ascii r (now (s .entry)) ⌝ }
-    ensures before { λ r. ⌜ (r ≤ length (now (s .entry))) × (untilZero (now (s .entry)) ≡ r + untilZero (drop r (now (s .entry)))) ⌝ }
-{
-    let mut i = 0;
-    while i < s.len() && plain(s[i]) {
-        i += 1;
-    }
-    i
-}
-
-// The same by four bytes at a time, since most names are short and many are read.
-pub(crate) fn until_zero(s: &[u8]) -> usize
+// What until_zero tells, by four bytes at a time: a name is short, but a message has many.
+pub(crate) fn plain_run(s: &[u8]) -> usize
     ensures is { λ r. ⌜ Ascii r (now (s .entry)) ⌝ }
     ensures before { λ r. ⌜ (r ≤ length (now (s .entry))) × (untilZero (now (s .entry)) ≡ r + untilZero (drop r (now (s .entry)))) ⌝ }
 {
@@ -140,5 +140,5 @@ pub(crate) fn until_zero(s: &[u8]) -> usize
         }
         i += 4;
     }
-    i + plain_bytes(&s[i..])
+    i + until_zero(&s[i..])
 }

@@ -70,7 +70,7 @@ fn searched(s: &[u8]) -> ZeroEnded
 pub fn zero_ended(s: &[u8]) -> ZeroEnded
     ensures { λ r. ⌜ Ended (now (s .entry)) r ⌝ }
 {
-    let n = ascii::until_zero(s);
+    let n = ascii::plain_run(s);
     if n < s.len() {
         if s[n] == 0 {
             return ZeroEnded::Text(n);

@@ -13,8 +13,8 @@ ended c =
     let t = c .before .before in
     let u = t .before in
     let s = u .before .before .args .s .now in
-    let n = u .until-zero .result in
-    let found = u .until-zero .ensures in
+    let n = u .plain-run .result in
+    let found = u .plain-run .ensures in
     (omega (arith, at-zero s n (t .if1 .taken) (eq-eqb _ _ (c .if2 .taken))), t .if1 .taken, ascii-passed n s (found .1 .0) (found .0))
 
 pub zero-ended-spec : {M : Type 1} → statement M
