@@ -51,22 +51,6 @@ module _ (xs : List ℕ) (i : ℕ) (run : PlainRun i xs) where
       let past = past-byte xs i h (ne-eqb (getD xs i 0) 0 (λ e. omega arith)) in
       (below-more (λ j. getD xs j 0 < 0x80) i (run .0) (a .1), omega arith)
 
--- up to four more
-module _ (xs : List ℕ) (i : ℕ) (run : PlainRun i xs) (fits : i + 4 ≤ length xs) (a : PlainAt i xs) where
-  pub plain-first : PlainRun (i + 1) xs
-  plain-first = plain-one xs i run (omega arith) a
-
-  module _ (b : PlainAt (i + 1) xs) where
-    pub plain-second : PlainRun (i + 2) xs
-    plain-second = let e : i + 2 ≡ i + 1 + 1 = omega arith in rw e (plain-one xs (i + 1) plain-first (omega arith) b)
-
-    module _ (c : PlainAt (i + 2) xs) where
-      pub plain-third : PlainRun (i + 3) xs
-      plain-third = let e : i + 3 ≡ i + 2 + 1 = omega arith in rw e (plain-one xs (i + 2) plain-second (omega arith) c)
-
-      pub plain-fourth : PlainAt (i + 3) xs → PlainRun (i + 4) xs
-      plain-fourth d = let e : i + 4 ≡ i + 3 + 1 = omega arith in rw e (plain-one xs (i + 3) plain-third (omega arith) d)
-
 -- and a run in the part `&xs[m..]`
 pub plain-part : (m n : ℕ) (xs : List ℕ) → PlainRun m xs → PlainRun n (take (length xs - m) (drop m xs)) → PlainRun (m + n) xs
 plain-part m n xs p q =

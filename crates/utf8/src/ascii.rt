@@ -119,26 +119,41 @@ fn plain(x: u8) -> bool
     0 < x && x < 0x80
 }
 
-// What until_zero tells, by four bytes at a time: a name is short, but a message has many.
+// How many of the first four bytes are such, up to the first that is none.
+fn plain_of_four(s: &[u8]) -> usize
+    requires { ⌜ 4 ≤ length (now s) ⌝ }
+    ensures few { λ r. ⌜ r ≤ 4 ⌝ }
+    ensures is { λ r. ⌜ Ascii r (now (s .entry)) ⌝ }
+    ensures before { λ r. ⌜ (r ≤ length (now (s .entry))) × (untilZero (now (s .entry)) ≡ r + untilZero (drop r (now (s .entry)))) ⌝ }
+{
+    if !plain(s[0]) {
+        return 0;
+    }
+    if !plain(s[1]) {
+        return 1;
+    }
+    if !plain(s[2]) {
+        return 2;
+    }
+    if !plain(s[3]) {
+        return 3;
+    }
+    4
+}
+
+// What until_zero tells, by four bytes at a time as long as four are such: a name is short, but a message has many.
 pub(crate) fn plain_run(s: &[u8]) -> usize
     ensures is { λ r. ⌜ Ascii r (now (s .entry)) ⌝ }
     ensures before { λ r. ⌜ (r ≤ length (now (s .entry))) × (untilZero (now (s .entry)) ≡ r + untilZero (drop r (now (s .entry)))) ⌝ }
 {
     let mut i = 0;
-    while 4 <= s.len() - i {
-        if !plain(s[i]) {
-            return i;
-        }
-        if !plain(s[i + 1]) {
-            return i + 1;
-        }
-        if !plain(s[i + 2]) {
-            return i + 2;
-        }
-        if !plain(s[i + 3]) {
-            return i + 3;
-        }
-        i += 4;
+    let mut n = 4;
+    while n == 4 && 4 <= s.len() - i {
+        n = plain_of_four(&s[i..]);
+        i += n;
+    }
+    if n < 4 {
+        return i;
     }
     i + until_zero(&s[i..])
 }

@@ -1,65 +1,39 @@
 -- `utf8::ascii::plain_run` meets its contract. The loop's invariant is the contract, of the bytes passed.
--- Assumes nothing.
-use Prim.Native.Nat.{_+_, _-_, _≤_}
+-- The measure is what is left of the bytes and what the last turn passed. Assumes nothing.
+use Prim.Native.Nat.{ℕ, _+_, _-_, _≤_}
 use native.Mathlib.Omega.{arith}
-use lib.ListN.{length}
+use lib.ListN.{length, take, drop, length-drop}
+use mathlib.Core.List.{List}
 use borrow.Author.Needs.{needs}
-use borrow.Author.Tests.{not-false}
-use Rattle.utf8.proofs.OneByte.{PlainRun, PlainAt, plain-none, plain-first, plain-second, plain-third, plain-fourth, plain-part}
+use borrow.Author.Tests.{leb-true}
+use Rattle.wire.proofs.Parts.{rest-part}
+use Rattle.utf8.proofs.OneByte.{PlainRun, plain-none, plain-part}
 use Rattle.utf8.proofs.ascii.plain_run.Statement.{statement}
 use Rattle.utf8.proofs.ascii.plain_run.Tie as tie
 
 abbrev Inv-loop : tie.InvT-loop
-Inv-loop s i₀ i = PlainRun i s
+Inv-loop s i₀ n₀ i n = PlainRun i s
 
 abbrev μ-loop : tie.MeasureT-loop
-μ-loop s i₀ i = length s - i
+μ-loop s i₀ n₀ i n = (length s - i) + n
 
--- what each test that went on tells of its byte
-module _ (c : tie.Else1 Inv-loop μ-loop) where
-  abbrev start : tie.At-loop Inv-loop μ-loop
-  start = c .before .before .before .before
+-- there are four bytes for each turn
+four-left : (s : List ℕ) (i : ℕ) → 4 ≤ length s - i → 4 ≤ length (take (length s - i) (drop i s))
+four-left s i h = rw (rest-part, length-drop) h
 
-  first : PlainAt (start .loop .i) (start .before .before .args .s .now)
-  first = c .before .plain .ensures (not-false _ (c .if1 .left))
-
-  room : start .loop .i + 4 ≤ length (start .before .before .args .s .now)
-  room = omega (arith, c .before .before .before .loop-test .taken, start .loop .inv .1 .0)
-
-second : (c : tie.Else2 Inv-loop μ-loop) → let s = start (c .before .before .before) in PlainAt (s .loop .i + 1) (s .before .before .args .s .now)
-second c = c .before .plain2 .ensures (not-false _ (c .if2 .left))
-
-third : (c : tie.Else3 Inv-loop μ-loop) → let s = start (c .before .before .before .before .before .before) in PlainAt (s .loop .i + 2) (s .before .before .args .s .now)
-third c = c .before .plain3 .ensures (not-false _ (c .if3 .left))
-
-returns-2 : tie.Need-returns-2 Inv-loop μ-loop
-returns-2 c =
-    let a = c .before .before .before in
-    plain-first _ _ (start a .loop .inv) (room a) (first a)
-
-returns-3 : tie.Need-returns-3 Inv-loop μ-loop
-returns-3 c =
-    let b = c .before .before .before in
-    let a = b .before .before .before in
-    plain-second _ _ (start a .loop .inv) (room a) (first a) (second b)
-
-returns-4 : tie.Need-returns-4 Inv-loop μ-loop
-returns-4 c =
-    let d = c .before .before .before in
-    let b = d .before .before .before in
-    let a = b .before .before .before in
-    plain-third _ _ (start a .loop .inv) (room a) (first a) (second b) (third d)
-
-loop-again : tie.Need-loop-again Inv-loop μ-loop
-loop-again c =
-    let d = c .before .before .before in
-    let b = d .before .before .before in
-    let a = b .before .before .before in
-    plain-fourth _ _ (start a .loop .inv) (room a) (first a) (second b) (third d) (c .before .plain4 .ensures (not-false _ (c .if4 .left)))
-
-all : (c : tie.After-until-zero Inv-loop μ-loop) → let l = c .before .before .before in PlainRun (l .loop .i + c .until-zero .result) (l .before .before .args .s .now)
-all c =
+asks : tie.Need-plain-of-four-requires Inv-loop μ-loop
+asks c κs =
     let l = c .before .before .before in
+    four-left (l .before .before .args .s .now) (l .loop .i) (leb-true _ _ (c .before .if1 .taken))
+
+further : (c : tie.After-plain-of-four Inv-loop μ-loop) → let l = c .before .before .before .before in PlainRun (l .loop .i + c .plain-of-four .result) (l .before .before .args .s .now)
+further c =
+    let l = c .before .before .before .before in
+    plain-part _ _ (l .before .before .args .s .now) (l .loop .inv) (c .plain-of-four .ensures .1)
+
+all : (c : tie.After-until-zero Inv-loop μ-loop) → let l = c .before .before .before .before in PlainRun (l .loop .i + c .until-zero .result) (l .before .before .args .s .now)
+all c =
+    let l = c .before .before .before .before in
     plain-part _ _ (l .before .before .args .s .now) (l .loop .inv) (c .until-zero .ensures)
 
 pub plain-run-spec : {M : Type 1} → statement M
@@ -71,26 +45,13 @@ plain-run-spec =
     (λ c. plain-none _)
     (λ c. omega arith)
     (λ c. omega arith)
-    (λ c κs. search needs)
-    (λ c. c .before .before .before .before .loop .inv)
-    (λ c. omega (arith, room c))
-    (λ c. omega (arith, room (c .before)))
-    (λ c κs. search needs)
-    (λ c. omega (arith, room (c .before .before .before)))
-    returns-2
-    (λ c. omega (arith, room (c .before .before .before)))
-    (λ c. omega (arith, room (c .before .before .before .before)))
-    (λ c κs. search needs)
-    (λ c. omega (arith, room (c .before .before .before .before .before .before)))
-    returns-3
-    (λ c. omega (arith, room (c .before .before .before .before .before .before)))
-    (λ c. omega (arith, room (c .before .before .before .before .before .before .before)))
-    (λ c κs. search needs)
-    (λ c. omega (arith, room (c .before .before .before .before .before .before .before .before .before)))
-    returns-4
-    (λ c. omega (arith, room (c .before .before .before .before .before .before .before .before .before)))
-    (λ c. omega (arith, room (c .before .before .before .before .before .before .before .before .before)))
-    loop-again
+    (λ c. omega arith)
+    (λ c. omega arith)
+    asks
+    (λ c. omega (arith, further c .1 .0))
+    (λ c. omega (arith, further c .1 .0))
+    further
+    (λ c. c .before .before .loop .inv)
     (λ c. omega arith)
     (λ c. omega arith)
     (λ c. omega arith)
