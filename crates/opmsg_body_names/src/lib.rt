@@ -199,7 +199,8 @@ fn compared(xs: &[u8], at: usize, marks: &mut [u64; 32]) -> Verdict
     Verdict::Accepted
 }
 
-// Check 23 of a body's elements xs, the first at a place. Their names get marks: where none is met, the names differ.
+// Check 23 of a body's elements xs, the first at a place. Their names get marks: where none is met, the names differ. `document` is the
+// place of the last document among them, or the end where there is none: it costs less to keep than a truth value.
 pub fn body_names(xs: &[u8], at: usize, marks: &mut [u64; 32]) -> Names
     requires { ⌜ Filled (now xs) × (at + length (now xs) < 2 ^ 64) × (length (now marks) ≡ 32) ⌝ }
     ensures is { λ r. ⌜ judged (r .verdict) ≡ distinct 23 never [] (elementNames (length (now (xs .entry))) at (now (xs .entry))) ⌝ }
@@ -209,7 +210,7 @@ pub fn body_names(xs: &[u8], at: usize, marks: &mut [u64; 32]) -> Names
     if LONG < xs.len() {
         return perhaps_nested(compared(xs, at, marks));
     }
-    let mut nested = false;
+    let mut document = xs.len();
     let mut i: usize = 0;
     while i < xs.len() {
         let text = name(xs, i);
@@ -217,12 +218,12 @@ pub fn body_names(xs: &[u8], at: usize, marks: &mut [u64; 32]) -> Names
             return perhaps_nested(compared(xs, at, marks));
         }
         if xs[i] == DOCUMENT {
-            nested = true;
+            document = i;
         }
         i = next(xs, i, text.len());
     }
     Names {
         verdict: Verdict::Accepted,
-        nested,
+        nested: document < xs.len(),
     }
 }

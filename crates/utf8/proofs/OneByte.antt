@@ -14,7 +14,7 @@ use borrow.Author.Tests.{ne-eqb}
 use Rattle.wire.specs.Bytes.{Bytes, word, untilZero}
 use Rattle.wire.proofs.Bytes.{past-byte}
 use Rattle.wire.proofs.Parts.{rest-part}
-use Rattle.utf8.specs.Inner.{Ascii}
+use Rattle.utf8.specs.Inner.{Ascii, PlainRun}
 
 -- a run and another behind it, which is found in the part `&xs[m..]`
 ascii-then : (m n : ℕ) (xs : List ℕ) → Ascii m xs → Ascii n (drop m xs) → Ascii (m + n) xs
@@ -35,9 +35,6 @@ pub ascii-front : (m n : ℕ) (xs : List ℕ) → n ≤ m → Ascii n (take m xs
 ascii-front m n xs l a i h = let k : i < m = omega arith in rw getD-take at (a i h)
 
 -- ---- a run of them before the first zero
-
-abbrev pub PlainRun : (n : ℕ) → List ℕ → Type 0
-PlainRun n xs = Ascii n xs × ((n ≤ length xs) × (untilZero xs ≡ n + untilZero (drop n xs)))
 
 abbrev pub PlainAt : (i : ℕ) → List ℕ → Type 0
 PlainAt i xs = (0 < getD xs i 0) × (getD xs i 0 < 0x80)

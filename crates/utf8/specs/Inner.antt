@@ -15,6 +15,10 @@ use Rattle.utf8.specs.declared.ZeroEnded.{ZeroEnded}
 abbrev pub Ascii : (n : ℕ) → List ℕ → Type 0
 Ascii n xs = (i : ℕ) → i < n → getD xs i 0 < 0x80
 
+-- and none of them is zero: the first zero byte comes behind them
+abbrev pub PlainRun : (n : ℕ) → List ℕ → Type 0
+PlainRun n xs = Ascii n xs × ((n ≤ length xs) × (untilZero xs ≡ n + untilZero (drop n xs)))
+
 -- so many bytes, where a test holds
 abbrev pub counted : (n : ℕ) → Bool → ℕ
 counted n true = n

@@ -2,10 +2,9 @@
 use wire::word;
 ghost use mathlib.Core.Path.{_≡_};
 ghost use mathlib.Core.Bool.{true};
-ghost use Prim.Native.Nat.{_+_, _<_, _≤_};
-ghost use lib.ListN.{length, getD, drop};
-ghost use Rattle.wire.specs.Bytes.{untilZero};
-ghost use Rattle.utf8.specs.Inner.{Ascii};
+ghost use Prim.Native.Nat.{_<_, _≤_};
+ghost use lib.ListN.{length, getD};
+ghost use Rattle.utf8.specs.Inner.{Ascii, PlainRun};
 
 // The first four bytes of s are such.
 fn four(s: &[u8]) -> bool
@@ -100,10 +99,16 @@ pub(crate) fn run(s: &[u8]) -> usize
     4 + words(&s[4..])
 }
 
+// A byte is one, other than zero.
+fn plain(x: u8) -> bool
+    ensures { λ r. ⌜ (r ≡ true → (0 < x) × (x < 0x80)) ⌝ }
+{
+    0 < x && x < 0x80
+}
+
 // How many of them, other than zero, s begins with.
 fn until_zero(s: &[u8]) -> usize
-    ensures is { λ r. ⌜ Ascii r (now (s .entry)) ⌝ }
-    ensures before { λ r. ⌜ (r ≤ length (now (s .entry))) × (untilZero (now (s .entry)) ≡ r + untilZero (drop r (now (s .entry)))) ⌝ }
+    ensures { λ r. ⌜ PlainRun r (now (s .entry)) ⌝ }
 {
     let mut i = 0;
     while i < s.len() && 0 < s[i] && s[i] < 0x80 {
@@ -112,20 +117,30 @@ fn until_zero(s: &[u8]) -> usize
     i
 }
 
-// A byte is one, other than zero.
-fn plain(x: u8) -> bool
-    ensures { λ r. ⌜ (r ≡ true → (0 < x) × (x < 0x80)) ⌝ }
+// The first four bytes are such.
+fn plain_four(s: &[u8]) -> bool
+    requires { ⌜ 4 ≤ length (now s) ⌝ }
+    ensures { λ r. ⌜ (r ≡ true → PlainRun 4 (now (s .entry))) ⌝ }
 {
-    0 < x && x < 0x80
+    if !plain(s[0]) {
+        return false;
+    }
+    if !plain(s[1]) {
+        return false;
+    }
+    if !plain(s[2]) {
+        return false;
+    }
+    plain(s[3])
 }
 
-// How many of the first four bytes are such, up to the first that is none.
-fn plain_of_four(s: &[u8]) -> usize
-    requires { ⌜ 4 ≤ length (now s) ⌝ }
-    ensures few { λ r. ⌜ r ≤ 4 ⌝ }
-    ensures is { λ r. ⌜ Ascii r (now (s .entry)) ⌝ }
-    ensures before { λ r. ⌜ (r ≤ length (now (s .entry))) × (untilZero (now (s .entry)) ≡ r + untilZero (drop r (now (s .entry)))) ⌝ }
+// How many are, up to three, where the first four are not all such; or all that are left.
+fn plain_rest(s: &[u8]) -> usize
+    ensures { λ r. ⌜ PlainRun r (now (s .entry)) ⌝ }
 {
+    if s.len() < 4 {
+        return until_zero(s);
+    }
     if !plain(s[0]) {
         return 0;
     }
@@ -135,25 +150,16 @@ fn plain_of_four(s: &[u8]) -> usize
     if !plain(s[2]) {
         return 2;
     }
-    if !plain(s[3]) {
-        return 3;
-    }
-    4
+    3
 }
 
-// What until_zero tells, by four bytes at a time as long as four are such: a name is short, but a message has many.
+// What until_zero tells, by four bytes at a time: a name is short, but a message has many.
 pub(crate) fn plain_run(s: &[u8]) -> usize
-    ensures is { λ r. ⌜ Ascii r (now (s .entry)) ⌝ }
-    ensures before { λ r. ⌜ (r ≤ length (now (s .entry))) × (untilZero (now (s .entry)) ≡ r + untilZero (drop r (now (s .entry)))) ⌝ }
+    ensures { λ r. ⌜ PlainRun r (now (s .entry)) ⌝ }
 {
     let mut i = 0;
-    let mut n = 4;
-    while n == 4 && 4 <= s.len() - i {
-        n = plain_of_four(&s[i..]);
-        i += n;
+    while 4 <= s.len() - i && plain_four(&s[i..]) {
+        i += 4;
     }
-    if n < 4 {
-        return i;
-    }
-    i + until_zero(&s[i..])
+    i + plain_rest(&s[i..])
 }

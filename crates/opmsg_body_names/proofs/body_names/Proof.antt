@@ -1,12 +1,12 @@
 -- `opmsg_body_names::body_names` meets its contract. The loop's invariant: the elements before place i have names that differ, their marks are made, and
--- where `nested` is not set none of them is a document. The measure is what is left of the bytes. Assumes nothing.
-use Prim.Native.Nat.{ℕ, _+_, _-_}
-use mathlib.Core.Bool.{false}
+-- where `document` is the end none of them is a document. The measure is what is left of the bytes. Assumes nothing.
+use Prim.Native.Nat.{ℕ, _+_, _-_, _≤_}
 use mathlib.Core.Logic.{⊎-elim}
 use mathlib.Core.Path.{_≡_, refl, ap, sym, _∙_}
 use native.Mathlib.Omega.{arith}
 use lib.ListN.{length}
 use borrow.Author.Needs.{needs}
+use borrow.Author.Tests.{ltb-false}
 use Rattle.opmsg_body_names.proofs.Texts.{not-both}
 use Rattle.opmsg_body_names.proofs.Distinct.{marking-size}
 use Rattle.opmsg_body_names.proofs.Elements.{reached-read, NamesPassed, passed-none, passed-unmarked, passed-next, passed-all, passed-marks, FlatTo, flat-next, flat-all}
@@ -14,10 +14,10 @@ use Rattle.opmsg_body_names.proofs.body_names.Statement.{statement}
 use Rattle.opmsg_body_names.proofs.body_names.Tie as tie
 
 abbrev Inv-loop : tie.InvT-loop
-Inv-loop xs at marks₀ nested₀ i₀ marks nested i = (k : ℕ) × NamesPassed at xs i k marks × (nested ≡ false → FlatTo xs i)
+Inv-loop xs at marks₀ document₀ i₀ marks document i = (k : ℕ) × NamesPassed at xs i k marks × (length xs ≤ document → FlatTo xs i)
 
 abbrev μ-loop : tie.MeasureT-loop
-μ-loop xs at marks₀ nested₀ i₀ marks nested i = length xs - i
+μ-loop xs at marks₀ document₀ i₀ marks document i = length xs - i
 
 compared-requires : tie.Need-compared-requires Inv-loop μ-loop
 compared-requires c κs = c .before .before .before .pre
@@ -66,8 +66,8 @@ loop-again c =
       l .loop .inv .0 + 1,
       rw (m .mark .ensures .1, n .name .ensures) (passed-next _ _ _ _ passed (t .loop-test .taken) _ (c .next .ensures .0) fresh),
       ⊎-elim
-          (λ w e. not-both e (w .1))
-          (λ w e. flat-next _ _ (l .loop .inv .2 (sym (w .1) ∙ e)) (passed .reached .filled) (t .loop-test .taken) (w .0 .left) _ (c .next .ensures .0))
+          (λ w e. absurd (omega (arith, w .1, t .loop-test .taken)))
+          (λ w e. flat-next _ _ (l .loop .inv .2 (omega (arith, w .1))) (passed .reached .filled) (t .loop-test .taken) (w .0 .left) _ (c .next .ensures .0))
           (j .if3 .came),
     )
 
@@ -75,7 +75,7 @@ returns-3 : tie.Need-returns-3 Inv-loop μ-loop
 returns-3 c =
     let l = c .before .loop in (
       sym (passed-all _ _ _ _ (l .inv .1) (c .loop-test .left)),
-      (λ h. passed-marks _ _ _ _ (l .inv .1) (c .loop-test .left), λ e. flat-all _ _ (l .inv .2 e) (c .loop-test .left)),
+      (λ h. passed-marks _ _ _ _ (l .inv .1) (c .loop-test .left), λ e. flat-all _ _ (l .inv .2 (ltb-false _ _ e)) (c .loop-test .left)),
     )
 
 pub body-names-spec : {M : Type 1} → statement M

@@ -4,7 +4,8 @@ use Prim.Native.Nat.{_-_}
 use native.Mathlib.Omega.{arith}
 use lib.ListN.{length}
 use borrow.Author.Tests.{ltb-true}
-use Rattle.utf8.proofs.OneByte.{PlainRun, plain-none, plain-one}
+use Rattle.utf8.specs.Inner.{PlainRun}
+use Rattle.utf8.proofs.OneByte.{plain-none, plain-one}
 use Rattle.utf8.proofs.ascii.until_zero.Statement.{statement}
 use Rattle.utf8.proofs.ascii.until_zero.Tie as tie
 
