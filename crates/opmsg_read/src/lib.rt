@@ -27,7 +27,7 @@ pub fn read(e: Edition, s: &[u8]) -> Reading
         return refusal(number, place);
     }
     let length = word(s) as usize;
-    let end = length - checksum_size(word(&s[16..])) as usize;
+    let end = length - checksum_size(s[16] as u32) as usize;
     let xs = &s[20..end];
     let c = sections(e, xs);
     let passed = c.verdict;

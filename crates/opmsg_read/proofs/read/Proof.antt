@@ -1,14 +1,15 @@
 -- `opmsg_read::read` meets its contract: the checks of the header, of the flag word, of the sections and of their names, one behind the other, and the view.
 -- Assumes nothing.
-use Prim.Native.Nat.{ℕ, _+_, _≤_}
+use Prim.Native.Nat.{ℕ, _+_, _%_, _≤_}
 use mathlib.Core.List.{List}
 use mathlib.Core.Path.{_≡_, sym, ap, _∙_}
-use lib.ListN.{length}
+use lib.ListN.{length, getD, drop}
+use lib.Seq.{getD-drop}
 use native.Mathlib.Omega.{arith}
 use borrow.Author.Needs.{needs}
-use Rattle.wire.specs.Bytes.{wordAt}
+use Rattle.wire.specs.Bytes.{word, wordAt}
 use Rattle.wire.proofs.Outcome.{go-on, halt}
-use Rattle.wire.proofs.Parts.{rest-part}
+use Rattle.opmsg.specs.Flags.{checksummed}
 use Rattle.opmsg.specs.Layout.{maxLength, messageLength, flagWord, checksumSize}
 use Rattle.opmsg.specs.Sections.{maxSections}
 use Rattle.opmsg.specs.View.{answer}
@@ -60,14 +61,20 @@ module _ (t : tie.After-enum-told2) where
   unfolding read
   rest = go-on _ (sym (head .before .before .header .ensures) ∙ ap judged (head .enum-told .given .1)) ∙ go-on _ (sym (flags .flagged .ensures) ∙ ap judged (t .enum-told2 .given .1))
 
+-- the first byte of the flag word tells whether there is a checksum
+first-byte : (s : List ℕ) → checksumSize (getD s 16 0) ≡ checksumSize (flagWord s)
+unfolding wordAt word checksumSize checksummed
+first-byte s =
+    let e : getD s 16 0 % 2 ≡ word (drop 16 s) % 2 = omega (arith, getD-drop 16 s 0 0) in
+    rw (checksumSize, e)
+
 -- the checksum's size, and the room that it leaves
 module _ (k : tie.After-checksum-size) where
   abbrev w : tie.After-word
-  w = k .before .before .before
+  w = k .before .before
 
   size : k .checksum-size .result ≡ checksumSize (wordAt 16 (start (w .before) .args .s .now))
-  unfolding wordAt
-  size = k .checksum-size .ensures ∙ ap checksumSize (rw rest-part at (k .before .word2 .ensures))
+  size = k .checksum-size .ensures ∙ first-byte (start (w .before) .args .s .now)
 
   least : 20 + k .checksum-size .result ≤ w .word .result
   unfolding wordAt
@@ -152,10 +159,8 @@ read-spec =
     (λ c. search needs)
     (λ c κs. search needs)
     (λ c. search needs)
-    (λ c. let r = ready (c .before) in omega (arith, r .ended, r .whole))
-    (λ c. let r = ready (c .before) in omega (arith, r .ended, r .whole))
-    (λ c. search needs)
-    (λ c κs. search needs)
+    (λ c. let r = ready (c .before .before) in omega (arith, r .ended, r .whole))
+    (λ c. omega (arith, c .shared-slice-known2 .given 16))
     (λ c κs. search needs)
     (λ c. search needs)
     (λ c. omega (arith, least c))
