@@ -83,22 +83,24 @@ fn of_four(s: &[u8]) -> usize
     0
 }
 
-// How many bytes the character at the start of s has; 0 where there is none.
-pub(crate) fn character(s: &[u8]) -> usize
-    requires { ⌜ 0 < length (now s) ⌝ }
+// A character whose first byte is from 0x80 to 0xDF: two bytes, or 0 where there is none.
+pub(crate) fn of_two(s: &[u8]) -> usize
+    requires { ⌜ (0 < length (now s)) × (0x80 ≤ getD (now s) 0 0) × (getD (now s) 0 0 < 0xE0) ⌝ }
     ensures { λ r. ⌜ r ≡ characterOf forms (now (s .entry)) ⌝ }
 {
     let first = s[0];
-    if first < 0x80 {
-        return 1;
-    }
     if first < 0xC2 {
         return 0;
     }
-    if first < 0xE0 {
-        return two(s);
-    }
-    if first < 0xF0 {
+    two(s)
+}
+
+// A character whose first byte is at least 0xE0: three bytes or four, or 0 where there is none.
+pub(crate) fn of_more(s: &[u8]) -> usize
+    requires { ⌜ (0 < length (now s)) × (0xE0 ≤ getD (now s) 0 0) ⌝ }
+    ensures { λ r. ⌜ r ≡ characterOf forms (now (s .entry)) ⌝ }
+{
+    if s[0] < 0xF0 {
         return of_three(s);
     }
     of_four(s)

@@ -1,8 +1,8 @@
 // Text: UTF-8 as RFC 3629 defines it.
 use wire::until_zero;
 ghost use mathlib.Core.Path.{_≡_};
-ghost use Prim.Native.Nat.{_<_};
-ghost use lib.ListN.{length};
+ghost use Prim.Native.Nat.{_<_, _≤_};
+ghost use lib.ListN.{length, getD};
 ghost use Rattle.utf8.specs.Text.{wellFormed};
 ghost use Rattle.utf8.specs.Inner.{Passes, Ended};
 
@@ -17,6 +17,32 @@ pub enum ZeroEnded {
     IllFormed(usize),
 }
 
+// A character of two bytes, with a run of such behind it; 0 where there is none.
+fn two_and_run(s: &[u8]) -> usize
+    requires { ⌜ (0 < length (now s)) × (0x80 ≤ getD (now s) 0 0) × (getD (now s) 0 0 < 0xE0) ⌝ }
+    ensures passes { λ r. ⌜ Passes r (now (s .entry)) ⌝ }
+    ensures stops { λ r. ⌜ (r ≡ 0 → wellFormed (now (s .entry)) ≡ 0) ⌝ }
+{
+    let n = characters::of_two(s);
+    if n == 2 {
+        return 2 + runs::narrow(&s[2..]);
+    }
+    n
+}
+
+// A character of three bytes, with a run of such behind it, or of four; 0 where there is none.
+fn more_and_run(s: &[u8]) -> usize
+    requires { ⌜ (0 < length (now s)) × (0xE0 ≤ getD (now s) 0 0) ⌝ }
+    ensures passes { λ r. ⌜ Passes r (now (s .entry)) ⌝ }
+    ensures stops { λ r. ⌜ (r ≡ 0 → wellFormed (now (s .entry)) ≡ 0) ⌝ }
+{
+    let n = characters::of_more(s);
+    if n == 3 {
+        return 3 + runs::triples(&s[3..]);
+    }
+    n
+}
+
 // Characters of one byte; or one of more, with a run of such behind it; 0 where there is none.
 fn step(s: &[u8]) -> usize
     requires { ⌜ 0 < length (now s) ⌝ }
@@ -26,14 +52,10 @@ fn step(s: &[u8]) -> usize
     if s[0] < 0x80 {
         return ascii::run(s);
     }
-    let n = characters::character(s);
-    if n == 2 {
-        return 2 + runs::narrow(&s[2..]);
+    if s[0] < 0xE0 {
+        return two_and_run(s);
     }
-    if n == 3 {
-        return 3 + runs::triples(&s[3..]);
-    }
-    n
+    more_and_run(s)
 }
 
 // How many bytes the longest well-formed beginning of s has.
