@@ -39,6 +39,9 @@ use Rattle.opmsg.specs.declared.Section as Shown
 abbrev run : ℕ → ℕ → Run
 run d n = record { documents = d; elements = n }
 
+same-run : {a b m n : ℕ} → a ≡ b → m ≡ n → run a m ≡ run b n
+same-run i j = rw (i, j)
+
 pub documents-complete : {xs : List ℕ} {d n : ℕ} → Documents xs d n → (turns at c m : ℕ) → length xs ≤ turns → m + n ≤ maxElements
     → walk nextDocument turns at xs (run c m) ≡ ok (run (c + d) (m + n))
 unfolding nextDocument
@@ -47,11 +50,9 @@ documents-complete (Documents.more {xs} {ys} d ds) zero at c m l h = absurd (ome
 documents-complete (Documents.more {d = j} {m = i} {n} {xs} {ys} d ds) (suc turns) at c m l h =
     let some = document-long d in
     let long = length-append xs ys in
-    let more : 1 + c + j ≡ c + suc j = omega arith in
-    let total : m + i + n ≡ m + (i + n) = omega arith in
     walk-step nextDocument turns at (xs ++ ys) (run c m) (omega arith)
     ∙ go-on _ (go-on _ (complete at xs ys m i d (omega arith)))
-    ∙ rw (drop-append-seam xs ys, ← more, ← total) (documents-complete ds turns (at + length xs) (1 + c) (m + i) (omega arith) (omega arith))
+    ∙ rw (drop-append-seam xs ys) (documents-complete ds turns (at + length xs) (1 + c) (m + i) (omega arith) (omega arith) ∙ ap ok (same-run (omega arith) (omega arith)))
 
 -- ---- one section
 
@@ -153,7 +154,7 @@ section-complete {e} (Section.body d) small at rest p a l = rw one-add at (body-
 section-complete {e} (Section.sequence {d} {n} {xs} text k some z u ds) small at rest p a l =
     let long = sequence-length text xs in
     ap (λ (ys : List ℕ). sectionAt e at (ys ++ rest) p) (sequence-form text xs)
-    ∙ sequence-complete e at rest p k some z u ds (omega arith) a l
+    ∙ sequence-complete e at rest p k (omega arith) z u ds (omega arith) a l
     ∙ ap (λ (i : ℕ). step i (given p (sequenceAt at (length text) (length xs) d) n)) (sym long)
 
 -- ---- sections back to back

@@ -158,9 +158,9 @@ module _ (e : Edition) (s : List ℕ) (v : View) (b : Bytes s) (h : read e s ≡
             words = (wordAt-lt 4 s b, wordAt-lt 8 s b, wordAt-lt 16 s b);
             bytes = sym (form _ _ _ _ _ ∙ rw (whole, a .same) (read-form e s v h b));
             limit = rw whole (k .limit);
-            known = known-bits 16 (flagWord s) (e .bits) (allKnown-known 16 (e .bits) (flagWord s) (reads h .bits));
+            known = λ i l. known-bits 16 (flagWord s) (e .bits) (allKnown-known 16 (e .bits) (flagWord s) (reads h .bits)) i (omega arith);
             single = one;
-            few = few;
+            few = omega (arith, few);
             limited = limited;
             differ = named .0;
             apart = named .1;
@@ -204,7 +204,7 @@ module _ (e : Edition) (m : List ℕ) (v : View) (g : Message e m v) where
   whole-read : read e whole ≡ ok v
   unfolding viewOf
   whole-read =
-      let bits = known-allKnown 16 (e .bits) (g .flags) (bits-known 16 (g .flags) (e .bits) (g .known)) in
+      let bits = known-allKnown 16 (e .bits) (g .flags) (bits-known 16 (g .flags) (e .bits) (λ i l. g .known i (omega arith))) in
       accepted e whole (seen .sound) (rw (seen .flags) bits) listing sections-listed (ne-eqb (bodyOf (listed 20 (g .tree)) .start) 0 (λ z. omega (arith, the-body .start))) names-differ
       ∙ ap ok (rw (words .0, words .1, words .2, seen .flags) (sym (g .shows)))
 

@@ -105,7 +105,7 @@ module _ (e : Edition) (at : ℕ) (xs : List ℕ) (p : Parts) (one : Step Parts)
         bytes = sequenceBytes (nameOf xs) (documentsOf xs);
         held = i .held;
         same = sequence-bytes xs (r .least) whole (r .ended) b k ∙ rw (r .size);
-        section = Section.sequence (nameOf xs) (rw known tt) (rw length-name (r .some)) ended (r .text) (i .is);
+        section = Section.sequence (nameOf xs) (rw known tt) (omega (arith, length-name, r .some)) ended (r .text) (i .is);
         added = r .added ∙ ap (λ (q : Shown.Section). p .sections ++ (q ∷ [])) (same-sequence at (sym length-name) (sym length-documents) (i .numbered ∙ zero-add (i .documents)));
         counted = r .counted ∙ i .counted;
       }
