@@ -1,17 +1,19 @@
 -- Laws of a text's first name: byte by byte, and beside another name.
 -- Assumes nothing.
-use Prim.Native.Nat.{ℕ, zero, suc, _+_, _≤_, _<_}
+use Prim.Native.Nat.{ℕ, zero, suc, _+_, _-_, _≤_, _<_}
 use mathlib.Core.Bool.{Bool, true, false}
 use mathlib.Core.Path.{_≡_, refl, sym, _∙_, ap}
-use mathlib.Core.List.{List, [], _∷_}
+use mathlib.Core.List.{List, [], _∷_, _++_, append-nil}
 use native.Mathlib.Numerals.{add-one}
 use native.Mathlib.Omega.{arith}
 use lib.ListN.{length, getD, take, drop, length-take, drop-of-length-le}
-use lib.Seq.{drop-cons, length-take-le}
-use lib.Dec.{eqb}
-use borrow.Author.Tests.{eqb-true, eq-eqb, ne-eqb}
+use lib.Seq.{drop-cons, length-take-le, getD-drop}
+use lib.Dec.{ltb, eqb}
+use borrow.Author.Tests.{ltb-true, ltb-false, eqb-true, eq-eqb, ne-eqb}
+use Rattle.wire.proofs.Parts.{rest-part}
 use Rattle.opmsg.specs.Names.{sameText}
 use Rattle.opmsg.specs.Dotted.{untilDot}
+use Rattle.opmsg_dotted.specs.Inner.{Undotted}
 use Rattle.opmsg_element_names.proofs.Texts.{same-longer, same-text}
 
 -- the name before a text's first dot, or all of a text without one
@@ -66,20 +68,26 @@ module _ (text : List ℕ) (i : ℕ) where
   unfolding untilDot
   past-all h = rw (drop-of-length-le text h)
 
--- four bytes that are no dots
-pub past-four : (text : List ℕ) (i : ℕ) → i + 3 < length text → (getD text i 0 ≡ 0x2E → ⊥) → (getD text (i + 1) 0 ≡ 0x2E → ⊥) → (getD text (i + 2) 0 ≡ 0x2E → ⊥)
-    → (getD text (i + 3) 0 ≡ 0x2E → ⊥) → untilDot (drop i text) ≡ 4 + untilDot (drop (i + 4) text)
-past-four text i h a b c d =
-    let two : i + 1 + 1 ≡ i + 2 = omega arith in
-    let three : i + 2 + 1 ≡ i + 3 = omega arith in
-    let four : i + 3 + 1 ≡ i + 4 = omega arith in
-    omega (
-      arith,
-      past-byte text i (omega arith) (ne-eqb _ _ a),
-      rw two at (past-byte text (i + 1) (omega arith) (ne-eqb _ _ b)),
-      rw three at (past-byte text (i + 2) (omega arith) (ne-eqb _ _ c)),
-      rw four at (past-byte text (i + 3) h (ne-eqb _ _ d)),
-    )
+-- ---- bytes that are no dots
+
+-- they stand before the first dot of what goes on behind them
+pub plain-dots : (name tail : List ℕ) → Undotted (length name) name → untilDot (name ++ tail) ≡ length name + untilDot tail
+plain-dots [] tail w = omega arith
+plain-dots (x ∷ name) tail w = no-dot x (name ++ tail) (ne-eqb _ _ (w 0 (omega arith))) ∙ rw (plain-dots name tail (λ i h. w (suc i) (omega arith))) (omega arith)
+
+pub no-dots : (text : List ℕ) → Undotted (length text) text → untilDot text ≡ length text
+no-dots text w = unfold untilDot in omega (arith, rw (append-nil text) at (plain-dots text [] w))
+
+-- some at the start, and some of the part `&xs[m..]` that begins among them or where they end
+pub undotted-part : (i m n : ℕ) (xs : List ℕ) → m ≤ i → Undotted i xs → Undotted n (take (length xs - m) (drop m xs)) → Undotted (m + n) xs
+undotted-part i m n xs l a b j h = go (ltb j i) refl
+  where
+    go : (t : Bool) → ltb j i ≡ t → getD xs j 0 ≡ 0x2E → ⊥
+    go true t e = a j (ltb-true j i t) e
+    go false t e =
+        let past = ltb-false j i t in
+        let place : m + (j - m) ≡ j = omega arith in
+        b (j - m) (omega arith) (rw (rest-part m xs, getD-drop, place) e)
 
 -- ---- the first name of a text and a name, from place i on
 

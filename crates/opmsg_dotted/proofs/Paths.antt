@@ -19,17 +19,10 @@ use Rattle.opmsg_documents.proofs.Fill.{document-filled}
 use Rattle.opmsg_element_names.proofs.Texts.{not-both, same-self, same-text}
 use Rattle.opmsg_element_names.proofs.Names.{filled-next, filled-within}
 use Rattle.opmsg_dotted.specs.Paths.{ElementOf, first, later, WithoutDot, Leads, there, within, FoundLeads}
-use Rattle.opmsg_dotted.proofs.FirstName.{firstName, dot, no-dot, dot-there, dots-before, dot-fits}
+use Rattle.opmsg_dotted.proofs.FirstName.{firstName, dot, dot-there, dots-before, dot-fits, plain-dots, no-dots}
 use Rattle.opmsg_dotted.proofs.Follow.{rest, found-none, found-later, found-other, found-last, found-no-document, found-within, found-not-within}
 
 -- ---- names and dots
-
--- a text before whose end there is no dot
-plain-dots : (name tail : List ℕ) → WithoutDot name → untilDot (name ++ tail) ≡ length name + untilDot tail
-plain-dots [] tail w = omega arith
-plain-dots (x ∷ name) tail w =
-    no-dot x (name ++ tail) (ne-eqb _ _ (λ e. w 0 (omega arith) e))
-    ∙ rw (plain-dots name tail (λ i h e. w (suc i) (omega arith) e)) (omega arith)
 
 firsts : (text : List ℕ) → WithoutDot (firstName text)
 firsts text i h e =
@@ -100,7 +93,7 @@ reach {xs} text (later l e) f h = found-later text xs f l (reach text e (filled-
 pub complete : {xs text : List ℕ} → Leads xs text → Filled xs → found xs text ≡ true
 complete (there {xs} {ys} e w) f =
     let name = nameText ys in
-    let dots : untilDot name ≡ length name = unfold untilDot in omega (arith, rw (append-nil name) at (plain-dots name [] w)) in
+    let dots = no-dots name w in
     reach name e f (λ g l. found-last name ys g l (rw (dots, take-length name) (same-self name)) (omega (arith, dots)))
 complete (within {xs} {ys} {tail} e w t inner) f =
     let name = nameText ys in

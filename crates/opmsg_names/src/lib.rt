@@ -5,7 +5,7 @@ use opmsg::Verdict;
 use opmsg::refused;
 use opmsg_body_names::body_names;
 use opmsg_body_names::mark;
-use opmsg_dotted::until_dot;
+use opmsg_dotted::undotted;
 use opmsg_identifiers::at_range;
 use opmsg_identifiers::elements;
 use opmsg_identifiers::met;
@@ -46,7 +46,7 @@ fn identifiers_differ(
                 }
             }
             if nested {
-                if until_dot(text) < text.len() {
+                if !undotted(text) {
                     if reaches(elements, marks, text) {
                         return refused(24, identifier.start as usize);
                     }

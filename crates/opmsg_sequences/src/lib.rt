@@ -3,7 +3,7 @@ use opmsg::Range;
 use opmsg_documents::Counted;
 use opmsg_documents::documents;
 use utf8::ZeroEnded;
-use utf8::zero_ended;
+use utf8::far_ended;
 use wire::under;
 use wire::word;
 ghost use mathlib.Core.Path.{_≡_};
@@ -82,7 +82,7 @@ fn sequence_named(xs: &[u8], at: usize, size: usize, elements: u32) -> Part
     ensures inside { λ r. ⌜ PartWithin (now (xs .entry)) r ⌝ }
 {
     let end = 1 + size;
-    match zero_ended(&xs[5..end]) {
+    match far_ended(&xs[5..end]) {
         ZeroEnded::Text(n) => {
             if n == 0 {
                 return refused(13, at + 5);

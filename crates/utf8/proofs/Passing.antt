@@ -4,14 +4,16 @@ use Prim.Native.Nat.{ℕ, zero, suc, _+_, _-_, _≤_, _<_}
 use mathlib.Core.Path.{_≡_, refl, sym, ap, _∙_}
 use mathlib.Core.List.{List, [], _∷_}
 use native.Mathlib.Omega.{arith}
-use lib.ListN.{length, take, drop, length-drop, take-append-drop, drop-of-length-le}
+use lib.ListN.{length, getD, take, drop, length-drop, take-append-drop, drop-of-length-le}
 use lib.Seq.{length-take-le, getD-take, drop-drop}
-use borrow.Author.Tests.{le-leb, lt-ltb, le-ltb}
+use borrow.Author.Tests.{le-leb, lt-ltb, le-ltb, eq-eqb}
 use Rattle.wire.specs.Outcome.{ok, refused, refuse}
+use Rattle.wire.proofs.Bytes.{at-zero}
 use Rattle.wire.proofs.Parts.{rest-part}
 use Rattle.utf8.specs.Utf8.{forms}
 use Rattle.utf8.specs.Text.{starts, characterOf, charactersOf, wellFormed, textAt}
-use Rattle.utf8.specs.Inner.{Ascii, Passes}
+use Rattle.utf8.specs.declared.ZeroEnded.{ZeroEnded}
+use Rattle.utf8.specs.Inner.{Ascii, PlainRun, Passes, Ended}
 use Rattle.utf8.proofs.Longest.{of-character, turn, beginning, longest, bounded}
 
 -- ---- as many characters at most as there are bytes are enough
@@ -86,3 +88,7 @@ pub ascii-passed : (n : ℕ) (xs : List ℕ) → n ≤ length xs → Ascii n xs 
 ascii-passed n xs l a at =
     let p = ascii-passes n (take n xs) (omega (arith, length-take-le n xs l)) (λ i h. rw getD-take (a i h)) in
     front-passed n (wellFormed (take n xs)) xs l refl at (omega arith)
+
+-- so where a zero byte stands behind them, they are the text that it ends
+pub plain-text : (n : ℕ) (xs : List ℕ) → PlainRun n xs → (n < length xs) × (getD xs n 0 ≡ 0) → Ended xs (ZeroEnded.Text n)
+plain-text n xs p z = (omega (arith, p .1 .1, at-zero xs n (z .0) (eq-eqb _ _ (z .1))), z .0, ascii-passed n xs (p .1 .0) (p .0))

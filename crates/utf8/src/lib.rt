@@ -1,8 +1,11 @@
 // Text: UTF-8 as RFC 3629 defines it.
+use wire::until_far_zero;
 use wire::until_zero;
+ghost use mathlib.Core.Bool.{true};
 ghost use mathlib.Core.Path.{_≡_};
 ghost use Prim.Native.Nat.{_<_, _≤_};
 ghost use lib.ListN.{length, getD};
+ghost use Rattle.wire.specs.Bytes.{untilZero};
 ghost use Rattle.utf8.specs.Text.{wellFormed};
 ghost use Rattle.utf8.specs.Inner.{Passes, Ended};
 
@@ -73,11 +76,21 @@ pub fn well_formed(s: &[u8]) -> usize
     i
 }
 
-// Text up to the first zero byte, whatever characters it has.
-fn searched(s: &[u8]) -> ZeroEnded
+// The byte at place n is there, and zero.
+fn zero_at(s: &[u8], n: usize) -> bool
+    ensures { λ r. ⌜ (r ≡ true → (n < length (now (s .entry))) × (getD (now (s .entry)) n 0 ≡ 0)) ⌝ }
+{
+    if s.len() <= n {
+        return false;
+    }
+    s[n] == 0
+}
+
+// Text up to the first zero byte, which stands behind n others, whatever characters it has.
+fn ended(s: &[u8], n: usize) -> ZeroEnded
+    requires { ⌜ n ≡ untilZero (now s) ⌝ }
     ensures { λ r. ⌜ Ended (now (s .entry)) r ⌝ }
 {
-    let n = until_zero(s);
     if s.len() <= n {
         return ZeroEnded::Unended;
     }
@@ -93,10 +106,19 @@ pub fn zero_ended(s: &[u8]) -> ZeroEnded
     ensures { λ r. ⌜ Ended (now (s .entry)) r ⌝ }
 {
     let n = ascii::plain_run(s);
-    if n < s.len() {
-        if s[n] == 0 {
-            return ZeroEnded::Text(n);
-        }
+    if zero_at(s, n) {
+        return ZeroEnded::Text(n);
     }
-    searched(s)
+    ended(s, until_zero(s))
+}
+
+// The same for text that may be long. A function of its own, so that zero_ended stays small enough for the compiler to put it into its callers.
+pub fn far_ended(s: &[u8]) -> ZeroEnded
+    ensures { λ r. ⌜ Ended (now (s .entry)) r ⌝ }
+{
+    let n = ascii::plain_run(s);
+    if zero_at(s, n) {
+        return ZeroEnded::Text(n);
+    }
+    ended(s, until_far_zero(s))
 }

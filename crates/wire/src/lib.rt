@@ -54,6 +54,29 @@ pub fn until_zero(s: &[u8]) -> usize
     i
 }
 
+// The same by four bytes at a time, for what may be long.
+pub fn until_far_zero(s: &[u8]) -> usize
+    ensures { λ r. ⌜ r ≡ untilZero (now (s .entry)) ⌝ }
+{
+    let mut i: usize = 0;
+    while 4 <= s.len() - i {
+        if s[i] == 0 {
+            return i;
+        }
+        if s[i + 1] == 0 {
+            return i + 1;
+        }
+        if s[i + 2] == 0 {
+            return i + 2;
+        }
+        if s[i + 3] == 0 {
+            return i + 3;
+        }
+        i += 4;
+    }
+    i + until_zero(&s[i..])
+}
+
 // The n bytes from a place on, or those of them that there are.
 pub fn stretch(s: &[u8], place: usize, n: usize) -> &[u8]
     ensures { λ r. ⌜ now r ≡ take n (drop place (now (s .entry))) ⌝ }

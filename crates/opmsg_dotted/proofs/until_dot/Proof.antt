@@ -4,7 +4,6 @@ use Prim.Native.Nat.{_≤_, _+_, _-_}
 use native.Mathlib.Omega.{arith}
 use mathlib.Core.Path.{_≡_}
 use lib.ListN.{length, drop}
-use borrow.Author.Needs.{needs}
 use borrow.Author.Tests.{not-true, not-false}
 use Rattle.opmsg.specs.Dotted.{untilDot}
 use Rattle.opmsg_dotted.proofs.FirstName.{at-dot, past-byte, past-all}
@@ -20,22 +19,21 @@ abbrev μ-loop : tie.MeasureT-loop
 loop-again : tie.Need-loop-again Inv-loop μ-loop
 loop-again c =
     let b = c .before .before .before in
-    omega (arith, past-byte (b .before .before .before .args .text .now) (b .loop .i) (c .before .before .loop-test .taken) (not-true _ (c .if1 .taken)))
+    omega (arith, past-byte (b .before .args .text .now) (b .loop .i) (c .before .before .loop-test .taken) (not-true _ (c .if1 .taken)))
 
 at-a-dot : tie.Need-returns Inv-loop μ-loop
 at-a-dot c =
     let b = c .before .before .before in
-    omega (arith, at-dot (b .before .before .before .args .text .now) (b .loop .i) (c .before .before .loop-test .taken) (not-false _ (c .if1 .left)))
+    omega (arith, at-dot (b .before .args .text .now) (b .loop .i) (c .before .before .loop-test .taken) (not-false _ (c .if1 .left)))
 
 at-the-end : tie.Need-returns-2 Inv-loop μ-loop
-at-the-end c = omega (arith, past-all (c .before .before .before .before .args .text .now) (c .before .loop .i) (c .loop-test .left))
+at-the-end c = omega (arith, past-all (c .before .before .args .text .now) (c .before .loop .i) (c .loop-test .left))
 
 pub until-dot-spec : {M : Type 1} → statement M
 until-dot-spec =
     tie.close
     (tie.spec Inv-loop μ-loop
-    (λ c κs. search needs)
-    (λ c. c .without-dots .ensures)
+    (λ c. omega arith)
     (λ c. omega arith)
     (λ c. omega arith)
     (λ c. omega arith)

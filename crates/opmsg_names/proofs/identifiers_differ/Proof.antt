@@ -7,6 +7,7 @@ use mathlib.Core.Path.{_≡_, sym, _∙_}
 use native.Mathlib.Omega.{arith}
 use lib.ListN.{length}
 use borrow.Author.Needs.{needs}
+use borrow.Author.Tests.{not-false}
 use Rattle.opmsg.specs.Names.{among, identifiers, texts, namesOf}
 use Rattle.opmsg.specs.Dotted.{found}
 use Rattle.opmsg_body_names.proofs.Texts.{neither}
@@ -99,7 +100,7 @@ loop-again c =
           (λ v. differ-unmarked xs _ _ _ _ _ m (l .loop .inv .1) (t .loop-test .taken) (omega arith) (w .1 .given .1) _ (w .3 .ensures) (sym (w .5 .ensures .0) ∙ v .left))
           (w .6 .came) in
           rw (w .10, w .5 .ensures .1) (differ-new xs _ _ _ _ _ m (l .loop .inv .1) (t .loop-test .taken) (omega arith) (w .1 .given .1) _ (w .3 .ensures) new
-          (found-plain _ _ (omega (arith, w .8 .ensures, w .9 .left)) ∙ neither _ _ new .0)))
+          (found-plain _ _ (omega (arith, w .8 .ensures (not-false _ (w .9 .left)))) ∙ neither _ _ new .0)))
           (⊎-elim
           (λ w.
           let new =

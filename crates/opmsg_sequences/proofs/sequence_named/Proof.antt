@@ -12,7 +12,7 @@ nothing-named c =
     let n = c .before .before .before in
     let z = n .before .before in
     let a = z .before .before .before in
-    (λ p k. rw (c .refused .ensures) (sym (empty _ _ (a .pre .0) (a .pre .1) _ (z .zero-ended .ensures) (a .args .at) p _ (n .n .given .1) (c .before .if1 .taken))), rw (c .refused .ensures) tt)
+    (λ p k. rw (c .refused .ensures) (sym (empty _ _ (a .pre .0) (a .pre .1) _ (z .far-ended .ensures) (a .args .at) p _ (n .n .given .1) (c .before .if1 .taken))), rw (c .refused .ensures) tt)
 
 documents : tie.Need-returns-2
 documents c =
@@ -20,20 +20,20 @@ documents c =
     let z = n .before .before in
     let a = z .before .before .before in
     let r = c .sequence-documents .ensures in
-    (λ p k. r .0 p k ∙ sym (text _ _ (a .pre .0) (a .pre .1) _ (z .zero-ended .ensures) (a .args .at) p _ (n .n .given .1) (c .before .if1 .left)), r .1)
+    (λ p k. r .0 p k ∙ sym (text _ _ (a .pre .0) (a .pre .1) _ (z .far-ended .ensures) (a .args .at) p _ (n .n .given .1) (c .before .if1 .left)), r .1)
 
 without-zero : tie.Need-returns-3
 without-zero c =
     let z = c .before .before .before in
     let a = z .before .before .before in
-    (λ p k. rw (c .refused2 .ensures) (sym (unended _ _ (a .pre .0) (a .pre .1) _ (z .zero-ended .ensures) (a .args .at) p (c .before .enum-told .given .1))), rw (c .refused2 .ensures) tt)
+    (λ p k. rw (c .refused2 .ensures) (sym (unended _ _ (a .pre .0) (a .pre .1) _ (z .far-ended .ensures) (a .args .at) p (c .before .enum-told .given .1))), rw (c .refused2 .ensures) tt)
 
 no-text : tie.Need-returns-4
 no-text c =
     let n = c .before .before in
     let z = n .before .before in
     let a = z .before .before .before in
-    (λ p k. rw (c .refused3 .ensures) (sym (ill-formed _ _ (a .pre .0) (a .pre .1) _ (z .zero-ended .ensures) (a .args .at) p _ (n .n2 .given .1))), rw (c .refused3 .ensures) tt)
+    (λ p k. rw (c .refused3 .ensures) (sym (ill-formed _ _ (a .pre .0) (a .pre .1) _ (z .far-ended .ensures) (a .args .at) p _ (n .n2 .given .1))), rw (c .refused3 .ensures) tt)
 
 pub sequence-named-spec : {M : Type 1} → statement M
 sequence-named-spec =
@@ -52,7 +52,7 @@ sequence-named-spec =
     let n = c .before .before in
     let z = n .before .before in
     let a = z .before .before .before in
-    (text-inside _ (a .args .xs .now) (a .pre .0) (a .pre .1) _ (z .zero-ended .ensures) _ (n .n .given .1), a .pre .1, a .pre .2))
+    (text-inside _ (a .args .xs .now) (a .pre .0) (a .pre .1) _ (z .far-ended .ensures) _ (n .n .given .1), a .pre .1, a .pre .2))
     (λ c. search needs)
     (λ c. search needs)
     (λ c κs. search needs)
@@ -61,7 +61,7 @@ sequence-named-spec =
     (λ c.
     let z = c .before .before .before in
     let a = z .before .before .before in
-    omega (arith, broken-inside _ (a .args .xs .now) (a .pre .0) (a .pre .1) _ (z .zero-ended .ensures) _ (c .before .n2 .given .1)))
+    omega (arith, broken-inside _ (a .args .xs .now) (a .pre .0) (a .pre .1) _ (z .far-ended .ensures) _ (c .before .n2 .given .1)))
     (λ c κs. search needs)
     documents
     without-zero
