@@ -14,12 +14,26 @@ ghost use mathlib.Core.Bool.{false};
 ghost use mathlib.Core.List.{List};
 ghost use mathlib.Core.Path.{_≡_};
 ghost use Prim.Native.Nat.{_+_, _-_, _^_, _<_, _≤_};
-ghost use Rattle.opmsg.specs.Names.{distinct, part, identifiers, namesOf};
+ghost use Rattle.opmsg.specs.Names.{among, distinct, part, identifiers, namesOf};
 ghost use Rattle.opmsg.specs.Dotted.{found};
 ghost use Rattle.opmsg.specs.declared.Section.{Section};
 ghost use Rattle.opmsg.specs.Read.{distinctNames};
 ghost use Rattle.opmsg.specs.Inner.{judged, firstSections, Shows, Filled, Flat};
 ghost use Rattle.opmsg_body_names.specs.Inner.{Marks};
+
+// A text that is no name of the elements leads to one of the documents among them, if there are any. Most texts have no dot.
+fn leads(elements: &[u8], marks: &[u64; 32], nested: bool, text: &[u8]) -> bool
+    requires { ⌜ Filled (now elements) × Marks (namesOf (now elements)) (now marks) × (nested ≡ false → Flat (now elements)) × (among (namesOf (now elements)) (now text) ≡ false) ⌝ }
+    ensures { λ r. ⌜ r ≡ found (now (elements .entry)) (now (text .entry)) ⌝ }
+{
+    if !nested {
+        return false;
+    }
+    if undotted(text) {
+        return false;
+    }
+    reaches(elements, marks, text)
+}
 
 // Check 24, given the body's elements, the marks of their names, and whether documents are among them. An identifier whose mark is met is
 // compared, and one with a dot is followed where there is a document.
@@ -45,12 +59,8 @@ fn identifiers_differ(
                     return refused(24, identifier.start as usize);
                 }
             }
-            if nested {
-                if !undotted(text) {
-                    if reaches(elements, marks, text) {
-                        return refused(24, identifier.start as usize);
-                    }
-                }
+            if leads(elements, marks, nested, text) {
+                return refused(24, identifier.start as usize);
             }
         }
         k += 1;

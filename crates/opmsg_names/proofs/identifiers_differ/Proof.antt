@@ -7,12 +7,10 @@ use mathlib.Core.Path.{_≡_, sym, _∙_}
 use native.Mathlib.Omega.{arith}
 use lib.ListN.{length}
 use borrow.Author.Needs.{needs}
-use borrow.Author.Tests.{not-false}
 use Rattle.opmsg.specs.Names.{among, identifiers, texts, namesOf}
 use Rattle.opmsg.specs.Dotted.{found}
 use Rattle.opmsg_body_names.proofs.Texts.{neither}
 use Rattle.opmsg_body_names.proofs.Distinct.{Met, met-none, met-base}
-use Rattle.opmsg_dotted.proofs.Follow.{found-plain, found-flat}
 use Rattle.opmsg_identifiers.proofs.Table.{firstIdentifiers, count, differ-all, differ-other, differ-again, differ-unmarked, differ-passing, differ-new}
 use Rattle.opmsg_names.proofs.identifiers_differ.Statement.{statement}
 use Rattle.opmsg_names.proofs.identifiers_differ.Tie as tie
@@ -58,23 +56,24 @@ new c =
     (sym (c .before .mark .ensures .0) ∙ w .left))
     (c .if1 .came)
 
-reaches-requires : tie.Need-reaches-requires Inv-loop μ-loop
-reaches-requires c κs =
-    let j = c .before .before .before .before in
+leads-requires : tie.Need-leads-requires Inv-loop μ-loop
+leads-requires c κs =
+    let j = c .before in
     let k = j .before in
     let l = k .before .before .before .before .before .before .before .before in
-    (l .before .before .before .pre .1, rw (k .mark .ensures .1) (met-base _ _ _ _ _ (l .loop .inv .2) _), neither _ _ (new j) .0)
+    let p = l .before .before .before .pre in
+    (p .1, rw (k .mark .ensures .1) (met-base _ _ _ _ _ (l .loop .inv .2) _), p .3, neither _ _ (new j) .0)
 
 returns-2 : tie.Need-returns-2 Inv-loop μ-loop
 returns-2 c =
     let n = c .before .before .before in
-    let j = n .before .before .before .before .before in
+    let j = n .before .before in
     let r = j .before .before .before in
     let q = r .before .before in
     let t = q .before .before .before in
     let l = t .before in
     rw (c .refused2 .ensures) (sym (differ-passing (l .before .before .before .args .xs .now) _ _ _ _ _ (l .loop .inv .2) (l .loop .inv .1) (t .loop-test .taken) (omega arith) (q .section .given .1) _ (r .at-range .ensures)
-    (new j) (sym (n .reaches .ensures) ∙ c .before .before .if5 .taken)))
+    (new j) (sym (n .leads .ensures) ∙ c .before .before .if3 .taken)))
 
 loop-again : tie.Need-loop-again Inv-loop μ-loop
 loop-again c =
@@ -91,26 +90,8 @@ loop-again c =
           (λ v. sym (v .1 .ensures) ∙ v .2 .left)
           (λ v. differ-unmarked xs _ _ _ _ _ m (l .loop .inv .1) (t .loop-test .taken) (omega arith) (w .1 .given .1) _ (w .3 .ensures) (sym (w .5 .ensures .0) ∙ v .left))
           (w .6 .came) in
-          rw (w .13, w .5 .ensures .1) (differ-new xs _ _ _ _ _ m (l .loop .inv .1) (t .loop-test .taken) (omega arith) (w .1 .given .1) _ (w .3 .ensures) new (sym (w .11 .ensures) ∙ w .12 .left)))
-          (⊎-elim
-          (λ w.
-          let new =
-          ⊎-elim
-          (λ v. sym (v .1 .ensures) ∙ v .2 .left)
-          (λ v. differ-unmarked xs _ _ _ _ _ m (l .loop .inv .1) (t .loop-test .taken) (omega arith) (w .1 .given .1) _ (w .3 .ensures) (sym (w .5 .ensures .0) ∙ v .left))
-          (w .6 .came) in
-          rw (w .10, w .5 .ensures .1) (differ-new xs _ _ _ _ _ m (l .loop .inv .1) (t .loop-test .taken) (omega arith) (w .1 .given .1) _ (w .3 .ensures) new
-          (found-plain _ _ (omega (arith, w .8 .ensures (not-false _ (w .9 .left)))) ∙ neither _ _ new .0)))
-          (⊎-elim
-          (λ w.
-          let new =
-          ⊎-elim
-          (λ v. sym (v .1 .ensures) ∙ v .2 .left)
-          (λ v. differ-unmarked xs _ _ _ _ _ m (l .loop .inv .1) (t .loop-test .taken) (omega arith) (w .1 .given .1) _ (w .3 .ensures) (sym (w .5 .ensures .0) ∙ v .left))
-          (w .6 .came) in
-          rw (w .8, w .5 .ensures .1) (differ-new xs _ _ _ _ _ m (l .loop .inv .1) (t .loop-test .taken) (omega arith) (w .1 .given .1) _ (w .3 .ensures) new
-          (found-flat _ _ (l .before .before .before .pre .3 (w .7 .left)) (neither _ _ new .0))))
-          (λ w. rw (w .1) (differ-other xs _ _ _ _ _ m (l .loop .inv .1) (t .loop-test .taken) (omega arith) (w .0 .keys2)))))
+          rw (w .10, w .5 .ensures .1) (differ-new xs _ _ _ _ _ m (l .loop .inv .1) (t .loop-test .taken) (omega arith) (w .1 .given .1) _ (w .3 .ensures) new (sym (w .8 .ensures) ∙ w .9 .left)))
+          (λ w. rw (w .1) (differ-other xs _ _ _ _ _ m (l .loop .inv .1) (t .loop-test .taken) (omega arith) (w .0 .keys2)))
           (c .match .came),
     )
 
@@ -133,8 +114,7 @@ identifiers-differ-spec =
     (λ c. search needs)
     (λ c κs. search needs)
     returns
-    (λ c κs. search needs)
-    reaches-requires
+    leads-requires
     (λ c. search needs)
     (λ c κs. search needs)
     returns-2
