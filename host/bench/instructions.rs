@@ -33,6 +33,7 @@ use common::reference::MAX_SEQUENCES;
 use relay::{ffi, Edition, MAX_LENGTH, VIEW_NUMBERS};
 use std::env;
 use std::hint::black_box;
+use std::iter::once;
 use std::process::ExitCode;
 
 const HOUSE: Edition = Edition::HOUSE;
@@ -98,29 +99,38 @@ fn messages() -> Vec<Message> {
         }
     }));
     for (name, nested) in [("sequences", false), ("nested", true)] {
-        messages.extend([1, 3, 9, 2_900].map(|length| Message {
-            name: format!("{name}-{length}"),
-            bytes: with_sequences(nested, length),
-            sequences: MAX_SEQUENCES as u32,
-        }));
+        for (script, first, lengths) in SCRIPTS {
+            messages.extend(lengths.map(|length| Message {
+                name: format!("{name}-{script}-{length}"),
+                bytes: with_sequences(nested, first, length),
+                sequences: MAX_SEQUENCES as u32,
+            }));
+        }
     }
     messages
 }
 
-/// A ping and 16 sequences of no documents, whose identifiers have this length
-/// and no dots. They are looked at for dots where a document is nested.
-fn with_sequences(nested: bool, length: usize) -> Vec<u8> {
+/// Letters of one byte, of two and of three: the first of some that follow it,
+/// and how many an identifier has.
+const SCRIPTS: [(&str, char, [usize; 5]); 3] = [
+    ("latin", 'a', [1, 3, 9, 30, 2_900]),
+    ("greek", 'α', [1, 5, 10, 40, 1_400]),
+    ("chinese", '一', [1, 5, 10, 40, 900]),
+];
+
+/// A ping and 16 sequences of no documents, whose identifiers have so many
+/// letters and no dots. They are looked at for dots where a document is nested.
+fn with_sequences(nested: bool, first: char, length: usize) -> Vec<u8> {
     let mut body = element(0x10, b"ping", &1_i32.to_le_bytes());
     if nested {
         body.extend(element(0x03, b"lsid", &document(b"")));
     }
+    let letter = |number| char::from_u32(first as u32 + number as u32).expect("a letter");
     let identifiers: Vec<Vec<u8>> = (0..MAX_SEQUENCES)
         .map(|index| {
-            let first = b'a' + index as u8;
-            let letter = |place| b'a' + ((7 * place + 3 * index) % 23) as u8;
-            (0..length)
-                .map(|place| if place == 0 { first } else { letter(place) })
-                .collect()
+            let others = (1..length).map(|place| (7 * place + 3 * index) % 23);
+            let letters = once(index).chain(others).map(letter);
+            letters.collect::<String>().into_bytes()
         })
         .collect();
     dotted::with_identifiers(document(&body), &identifiers)

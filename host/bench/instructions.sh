@@ -17,9 +17,10 @@
 # dots, so `followed` is what following takes. By the bytes of the body it should
 # stay level.
 #
-# The fourth table is of pings with 16 sequences of no documents, by the length of
-# their identifiers, which have no dots. Beside a document, `nested`, each of them
-# is looked at for a dot, and `more` is what that and the document take.
+# The fourth table is of pings with 16 sequences of no documents, by the letters of
+# their identifiers, of one byte, of two and of three, and no dots. Beside a
+# document, `nested`, each of them is looked at for a dot, and `more` is what that
+# and the document take.
 set -eu
 cd "$(dirname "$0")/.."
 cargo build --quiet --release --example instructions
@@ -96,10 +97,9 @@ awk '
 echo
 awk '
     BEGIN { printf "%-14s%7s%10s%10s%10s\n", "identifiers", "bytes", "read", "nested", "more" }
-    { split($1, part, "-") }
-    part[1] == "sequences" { bytes[part[2]] = $2; read[part[2]] = $3 }
-    part[1] == "nested" {
-        size = part[2]
-        printf "%-14s%7d%10d%10d%10d\n", size, bytes[size], read[size], $3, $3 - read[size]
+    { letters = $1; sub(/^[^-]*-/, "", letters) }
+    $1 ~ /^sequences/ { bytes[letters] = $2; read[letters] = $3 }
+    $1 ~ /^nested/ {
+        printf "%-14s%7d%10d%10d%10d\n", letters, bytes[letters], read[letters], $3, $3 - read[letters]
     }
 ' "$plain"

@@ -1,7 +1,8 @@
 // Numbers and texts in bytes: little-endian words, signed words, the search for a zero byte, the bytes from a place on.
+ghost use mathlib.Core.Bool.{true};
 ghost use mathlib.Core.Path.{_≡_};
-ghost use Prim.Native.Nat.{_<_};
-ghost use lib.ListN.{getD, take, drop};
+ghost use Prim.Native.Nat.{_+_, _<_, _≤_};
+ghost use lib.ListN.{length, getD, take, drop};
 ghost use Rattle.wire.specs.Bytes.{word, under, signed, bits32, untilZero};
 
 // The byte at place i; 0 past the end.
@@ -54,24 +55,29 @@ pub fn until_zero(s: &[u8]) -> usize
     i
 }
 
-// The same by four bytes at a time, for what may be long.
+// None of the first four bytes is zero.
+fn no_zero(s: &[u8]) -> bool
+    requires { ⌜ 4 ≤ length (now s) ⌝ }
+    ensures { λ r. ⌜ (r ≡ true → untilZero (now (s .entry)) ≡ 4 + untilZero (drop 4 (now (s .entry)))) ⌝ }
+{
+    if s[0] == 0 {
+        return false;
+    }
+    if s[1] == 0 {
+        return false;
+    }
+    if s[2] == 0 {
+        return false;
+    }
+    s[3] != 0
+}
+
+// What until_zero tells, by four bytes at a time: for what may be long.
 pub fn until_far_zero(s: &[u8]) -> usize
     ensures { λ r. ⌜ r ≡ untilZero (now (s .entry)) ⌝ }
 {
     let mut i: usize = 0;
-    while 4 <= s.len() - i {
-        if s[i] == 0 {
-            return i;
-        }
-        if s[i + 1] == 0 {
-            return i + 1;
-        }
-        if s[i + 2] == 0 {
-            return i + 2;
-        }
-        if s[i + 3] == 0 {
-            return i + 3;
-        }
+    while 4 <= s.len() - i && no_zero(&s[i..]) {
         i += 4;
     }
     i + until_zero(&s[i..])
