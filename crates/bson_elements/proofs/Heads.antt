@@ -9,9 +9,9 @@ use borrow.Author.Tests.{le-leb, lt-leb}
 use Rattle.wire.specs.Outcome.{_>>=_}
 use Rattle.wire.proofs.Outcome.{pass, stop, go-on, halt, same-after}
 use Rattle.wire.proofs.Parts.{rest-part}
-use Rattle.utf8.specs.Inner.{Ended}
-use Rattle.utf8.specs.declared.ZeroEnded.{ZeroEnded}
-use Rattle.utf8.specs.declared.ZeroEnded.the-variants as ZeroEnded
+use Rattle.utf8_text.specs.Inner.{Ended}
+use Rattle.utf8_text.specs.declared.ZeroEnded.{ZeroEnded}
+use Rattle.utf8_text.specs.declared.ZeroEnded.the-variants as ZeroEnded
 use Rattle.bson_values.specs.Value.{table, ruleIn}
 use Rattle.bson_values.specs.Inner.{ShapeWithin}
 use Rattle.bson_values.specs.declared.Shape.{Shape}

@@ -1,7 +1,7 @@
 // The element table: what stands after an element's name.
-use utf8::ZeroEnded;
-use utf8::well_formed;
-use utf8::zero_ended;
+use utf8_text::ZeroEnded;
+use utf8_text::well_formed;
+use utf8_text::zero_ended;
 use wire::under;
 use wire::word;
 ghost use mathlib.Core.Path.{_≡_};

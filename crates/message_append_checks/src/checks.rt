@@ -4,7 +4,7 @@ use opmsg::Verdict;
 use opmsg::refused;
 use opmsg_header::MAX_LENGTH;
 use opmsg_sequences::MAX_SEQUENCES;
-use utf8::well_formed;
+use utf8_text::well_formed;
 use wire::until_zero;
 ghost use mathlib.Core.Path.{_≡_};
 ghost use Prim.Native.Nat.{_+_, _^_, _<_};

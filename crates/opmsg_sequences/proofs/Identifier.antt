@@ -10,9 +10,9 @@ use borrow.Author.Tests.{le-leb, lt-leb, eq-eqb, ne-eqb}
 use Rattle.wire.specs.Outcome.{refused}
 use Rattle.wire.specs.Bytes.{untilZero}
 use Rattle.wire.proofs.Outcome.{pass, stop, go-on, halt}
-use Rattle.utf8.specs.Inner.{Ended}
-use Rattle.utf8.specs.declared.ZeroEnded.{ZeroEnded}
-use Rattle.utf8.specs.declared.ZeroEnded.the-variants as ZeroEnded
+use Rattle.utf8_text.specs.Inner.{Ended}
+use Rattle.utf8_text.specs.declared.ZeroEnded.{ZeroEnded}
+use Rattle.utf8_text.specs.declared.ZeroEnded.the-variants as ZeroEnded
 use Rattle.opmsg.specs.Sections.{Parts, sequenceRun, sequenceNamed}
 
 module _ (size : ℕ) (xs : List ℕ) (least : 5 ≤ size) (fits : 1 + size ≤ length xs) (e : ZeroEnded) (found : Ended (take (1 + size - 5) (drop 5 xs)) e) where

@@ -2,8 +2,8 @@
 use opmsg::Range;
 use opmsg_documents::Counted;
 use opmsg_documents::documents;
-use utf8::ZeroEnded;
-use utf8::far_ended;
+use utf8_text::ZeroEnded;
+use utf8_text::far_ended;
 use wire::under;
 use wire::word;
 ghost use mathlib.Core.Path.{_≡_};

@@ -1,50 +1,9 @@
--- What the answers of the functions stand for.
+-- What the laws of one character (`proofs/Forms.antt`) and the contracts of `utf8_text` count.
 -- Assumes nothing: these are definitions.
-use Prim.Native.Nat.{ℕ, _+_, _≤_, _<_}
+use Prim.Native.Nat.{ℕ}
 use mathlib.Core.Bool.{Bool, true, false}
-use mathlib.Core.List.{List}
-use mathlib.Core.Path.{_≡_}
-use mathlib.Core.Logic.{_⊎_}
-use lib.ListN.{length, getD, take, drop}
-use Rattle.wire.specs.Outcome.{ok, refused}
-use Rattle.wire.specs.Bytes.{untilZero}
-use Rattle.utf8.specs.Text.{wellFormed, textAt}
-use Rattle.utf8.specs.declared.ZeroEnded.{ZeroEnded}
-
--- the first n bytes of xs are characters of one byte; what stands past the end counts as such
-abbrev pub Ascii : (n : ℕ) → List ℕ → Type 0
-Ascii n xs = (i : ℕ) → i < n → getD xs i 0 < 0x80
-
--- and none of them is zero: the first zero byte comes behind them
-abbrev pub PlainRun : (n : ℕ) → List ℕ → Type 0
-PlainRun n xs = Ascii n xs × ((n ≤ length xs) × (untilZero xs ≡ n + untilZero (drop n xs)))
 
 -- so many bytes, where a test holds
 abbrev pub counted : (n : ℕ) → Bool → ℕ
 counted n true = n
 counted n false = 0
-
--- the first n bytes of xs are characters, and the longest well-formed beginning runs on behind them
-abbrev pub Passes : (n : ℕ) → List ℕ → Type 0
-Passes n xs = (n ≤ length xs) × (wellFormed xs ≡ n + wellFormed (drop n xs))
-
--- a byte that only stands behind another one of its character, and one that never does
-abbrev pub Tail : ℕ → Type 0
-Tail x = (0x80 ≤ x) × (x ≤ 0xBF)
-
-abbrev pub Other : ℕ → Type 0
-Other x = (x < 0x80) ⊎ (0xBF < x)
-
--- y may stand behind x where each character has one byte or two: a tail behind the first of two, and anything else behind a tail or a character of one
-abbrev pub Follows : (x y : ℕ) → Type 0
-Follows x y = ((0xC2 ≤ x) × (x ≤ 0xDF) × Tail y) ⊎ ((x ≤ 0xBF) × Other y)
-
--- so it is behind each of the first n bytes
-abbrev pub Joined : (n : ℕ) → List ℕ → Type 0
-Joined n xs = (i : ℕ) → i < n → Follows (getD xs i 0) (getD xs (i + 1) 0)
-
--- what is found of text that a zero byte ends
-abbrev pub Ended : List ℕ → ZeroEnded → Type 0
-Ended xs (ZeroEnded.Text n) = (n ≡ untilZero xs) × (n < length xs) × ((at : ℕ) → textAt at (take n xs) ≡ ok tt)
-Ended xs ZeroEnded.Unended = length xs ≤ untilZero xs
-Ended xs (ZeroEnded.IllFormed n) = (untilZero xs < length xs) × (n < untilZero xs) × ((at : ℕ) → textAt at (take (untilZero xs) xs) ≡ refused 27 (at + n))
