@@ -107,7 +107,7 @@ fn plain(x: u8) -> bool
 }
 
 // How many of them, other than zero, s begins with.
-fn until_zero(s: &[u8]) -> usize
+pub fn until_zero(s: &[u8]) -> usize
     ensures { λ r. ⌜ PlainRun r (now (s .entry)) ⌝ }
 {
     let mut i = 0;
@@ -153,7 +153,7 @@ fn plain_rest(s: &[u8]) -> usize
     3
 }
 
-// What until_zero tells, by four bytes at a time: a name is short, but a message has many.
+// What until_zero tells, by four bytes at a time.
 pub fn plain_run(s: &[u8]) -> usize
     ensures { λ r. ⌜ PlainRun r (now (s .entry)) ⌝ }
 {

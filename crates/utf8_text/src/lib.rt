@@ -104,14 +104,14 @@ fn ended(s: &[u8], n: usize) -> ZeroEnded
 pub fn zero_ended(s: &[u8]) -> ZeroEnded
     ensures { λ r. ⌜ Ended (now (s .entry)) r ⌝ }
 {
-    let n = utf8_ascii::plain_run(s);
+    let n = utf8_ascii::until_zero(s);
     if zero_at(s, n) {
         return ZeroEnded::Text(n);
     }
     ended(s, until_zero(s))
 }
 
-// The same for text that may be long. A function of its own, so that zero_ended stays small enough for the compiler to put it into its callers.
+// The same by four bytes at a time, for text that may be long.
 pub fn far_ended(s: &[u8]) -> ZeroEnded
     ensures { λ r. ⌜ Ended (now (s .entry)) r ⌝ }
 {

@@ -9,7 +9,7 @@ plain : tie.Need-returns
 plain c =
     let z = c .before in
     let u = z .before in
-    plain-text _ (u .before .before .args .s .now) (u .plain-run .ensures) (z .zero-at .ensures (c .if1 .taken))
+    plain-text _ (u .before .before .args .s .now) (u .until-zero .ensures) (z .zero-at .ensures (c .if1 .taken))
 
 pub zero-ended-spec : {M : Type 1} → statement M
 zero-ended-spec =
