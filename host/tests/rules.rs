@@ -1802,6 +1802,45 @@ fn chain(name: &[u8], levels: usize) -> Vec<u8> {
 }
 
 #[test]
+fn a_dot_is_seen_wherever_it_stands() {
+    for letter in ["x", "ж", "水"] {
+        for (before, behind) in (0..40).flat_map(|n| (0..40).map(move |m| (n, m))) {
+            let (first, last) = (letter.repeat(before), letter.repeat(behind));
+            let dotted = format!("{first}.{last}");
+            let inside = |name: &str| [within(first.as_bytes(), &[null(name.as_bytes())])];
+            assert!(is_taken(&inside(&last), dotted.as_bytes()), "{dotted}");
+            let longer = format!("{last}x");
+            assert!(!is_taken(&inside(&longer), dotted.as_bytes()), "{dotted}");
+            // The bytes beside a dot's in the order of their values.
+            for other in ["-", "/"] {
+                let undotted = format!("{first}{other}{last}");
+                assert!(!is_taken(&inside(&last), undotted.as_bytes()), "{undotted}");
+            }
+        }
+    }
+}
+
+#[test]
+fn an_identifier_of_any_length_has_an_end() {
+    for letter in ["x", "ж", "水"] {
+        for count in 1..70 {
+            let identifier = letter.repeat(count);
+            let ended = with_identifier(identifier.as_bytes(), b"");
+            let body = Section::Body(document(&null(b"a")));
+            let view = read_sections(&[body.clone(), ended]).unwrap();
+            let sequence = view.sequences().next().unwrap();
+            assert_eq!(sequence.identifier.len(), identifier.len());
+            let place = sequence.identifier.start;
+            // The same without the zero byte at its end.
+            let size = 4 + identifier.len() as u32;
+            let bytes = [&[1], &size.to_le_bytes()[..], identifier.as_bytes()].concat();
+            let unended = read_sections(&[body, Section::Raw(bytes)]);
+            assert_eq!(unended, Err(Refusal::BadIdentifier(place)));
+        }
+    }
+}
+
+#[test]
 fn identifiers_of_dots_beside_nested_empty_names() {
     let elements_of = |body: &[u8]| [body[4..body.len() - 1].to_vec()];
     for levels in [1, 2, 3, 4, 31, 32] {

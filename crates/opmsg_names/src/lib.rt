@@ -21,7 +21,7 @@ ghost use Rattle.opmsg.specs.Read.{distinctNames};
 ghost use Rattle.opmsg.specs.Inner.{judged, firstSections, Shows, Filled, Flat};
 ghost use Rattle.opmsg_body_names.specs.Inner.{Marks};
 
-// A text that is no name of the elements leads to one of the documents among them, if there are any. Most texts have no dot.
+// A text that is no name of the elements leads on to a name in their documents, if there are any. Most texts have no dot.
 fn leads(elements: &[u8], marks: &[u64; 32], nested: bool, text: &[u8]) -> bool
     requires { ⌜ Filled (now elements) × Marks (namesOf (now elements)) (now marks) × (nested ≡ false → Flat (now elements)) × (among (namesOf (now elements)) (now text) ≡ false) ⌝ }
     ensures { λ r. ⌜ r ≡ found (now (elements .entry)) (now (text .entry)) ⌝ }
