@@ -66,7 +66,7 @@ fn clear_by(text: &[u8], n: usize) -> bool
     clear(&text[last..], n)
 }
 
-// A text has no dot. Most have none, and this tells it sooner than until_dot.
+// A text has no dot: most have none, and this tells it sooner than until_dot, which is to be asked where the answer is no.
 pub fn undotted(text: &[u8]) -> bool
     ensures { λ r. ⌜ (r ≡ true → untilDot (now (text .entry)) ≡ length (now (text .entry))) ⌝ }
 {
