@@ -1,6 +1,6 @@
 -- Laws of documents and elements that the proof of the code's cycle of calls cites: what each part that was read makes of the whole.
 -- Assumes nothing.
-use Prim.Native.Nat.{ℕ, zero, suc, _+_, _-_, _<_}
+use Prim.Native.Nat.{ℕ, zero, suc, _+_, _-_, _^_, _<_}
 use mathlib.Core.List.{List}
 use mathlib.Core.Path.{_≡_, refl, sym, ap, _∙_}
 use native.Mathlib.Omega.{arith}
@@ -19,10 +19,10 @@ use Rattle.bson.proofs.Frame.{Framed, frame-is, document-framed}
 pub document-past : (levels at : ℕ) (xs : List ℕ) (count size total : ℕ) (w : Walk) → told w ≡ documentAt levels at xs count → w ≡ Walk.Past size total → Framed xs size
 document-past levels at xs count size total w e h = document-framed levels at xs count (record { size = size; state = total }) (sym e ∙ ap told h)
 
--- where an element was begun, the limit is not reached
-pub few : (at : ℕ) (xs : List ℕ) (count : ℕ) (h : Head) → head at xs count ≡ ok h → count < 4096
+-- where an element was begun, the limit is not reached, so that one more can be counted
+pub few : (at : ℕ) (xs : List ℕ) (count : ℕ) (h : Head) → head at xs count ≡ ok h → count < 2 ^ 31
 unfolding head maxElements
-few at xs count h e = check-leb _ _ _ _ maxElements count .0 e .0
+few at xs count h e = omega (arith, check-leb _ _ _ _ maxElements count .0 e .0)
 
 -- a document: none at no level; else its frame, and then its elements
 pub no-level : (levels at : ℕ) (xs : List ℕ) (count : ℕ) → levels ≡ 0 → documentAt levels at xs count ≡ refused 20 at

@@ -14,7 +14,7 @@ ghost use Rattle.bson_elements.specs.Element.{head};
 ghost use Rattle.bson_elements.specs.Inner.{outline, begins, OutlineWithin, unnamed};
 
 // The most elements of a message.
-pub const MAX_ELEMENTS: u32 = 4096;
+pub const MAX_ELEMENTS: u32 = 262_144;
 
 // An element but for the documents in it: where its value starts, and what that is; or a refusal's number and place.
 pub enum Outline {

@@ -1,3 +1,7 @@
-pub mod Next
 pub mod Settled
-pub mod Example
+pub mod Next
+pub mod Taken
+pub mod Rest
+pub mod Fair
+pub mod Pieces
+pub mod Examples

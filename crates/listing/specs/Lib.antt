@@ -1,3 +1,4 @@
 pub mod Next
 pub mod Listing
+pub mod Run
 pub mod Inner

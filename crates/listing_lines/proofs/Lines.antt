@@ -9,6 +9,10 @@ pub two-fields : (a b : List ℕ) → a ++ tab ∷ [] ++ (b ++ newline ∷ []) �
 unfolding line
 two-fields a b = simp append-assoc
 
+pub three-fields : (a b c : List ℕ) → a ++ tab ∷ [] ++ (b ++ tab ∷ []) ++ (c ++ newline ∷ []) ≡ line (a ∷ b ∷ c ∷ [])
+unfolding line
+three-fields a b c = simp append-assoc
+
 pub four-fields : (a b c d : List ℕ) → a ++ tab ∷ [] ++ (b ++ tab ∷ (c ++ tab ∷ (d ++ newline ∷ []))) ≡ line (a ∷ b ∷ c ∷ d ∷ [])
 unfolding line
 four-fields a b c d = simp append-assoc

@@ -12,7 +12,8 @@ use Rattle.wire.proofs.Parts.{put-fits}
 use Rattle.listing_lines.specs.Written.{TextWritten}
 
 module _ {text old new : List ℕ} {at : ℕ} (w : TextWritten text old new at) where
-  front : take at new ≡ text
+  -- the text stands at the start
+  pub front : take at new ≡ text
   front = ap (take at) (w .is) ∙ take-at text (drop at old) at (sym (w .size))
 
   behind : (k : ℕ) → drop (at + k) new ≡ drop (at + k) old

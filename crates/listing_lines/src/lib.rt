@@ -7,8 +7,11 @@ use crate::fields::number;
 use crate::fields::three_numbers;
 use crate::fields::two_signed;
 ghost use Rattle.io.specs.Counts.{Counts};
-ghost use Rattle.listing_lines.specs.Lines.{firstLine, messageLine, badLine, endLine};
+ghost use Rattle.listing_lines.specs.Lines.{version, firstLine, messageLine, bigLine, badLine, endLine};
 ghost use Rattle.listing_lines.specs.Written.{TextWritten};
+
+// The version of the listings that are written.
+pub const VERSION: u64 = 2;
 
 // What a line tells of a message.
 pub struct Summary {
@@ -22,11 +25,11 @@ pub struct Summary {
 
 // Writes the first line to the start of out and answers its length.
 pub fn first_line(out: &mut [u8; 256]) -> usize
-    ensures { λ r. ⌜ TextWritten firstLine (now (out .entry)) (now (out .exit)) r ⌝ }
+    ensures { λ r. ⌜ TextWritten (firstLine version) (now (out .entry)) (now (out .exit)) r ⌝ }
     ensures { λ r. ⌜ Counts r (now (out .exit)) ⌝ }
 {
     wire_put::put(out, 0, b"relay-log\t");
-    number(out, 10, 1, NEWLINE)
+    number(out, 10, VERSION, NEWLINE)
 }
 
 // Writes the line of a message and answers its length.
@@ -46,6 +49,16 @@ pub fn message_line(out: &mut [u8; 256], offset: u64, m: Summary) -> usize
         m.elements as u64,
         NEWLINE,
     )
+}
+
+// Writes the line of a message that is passed over and answers its length.
+pub fn big_line(out: &mut [u8; 256], offset: u64, length: u32) -> usize
+    ensures { λ r. ⌜ TextWritten (bigLine offset length) (now (out .entry)) (now (out .exit)) r ⌝ }
+    ensures { λ r. ⌜ Counts r (now (out .exit)) ⌝ }
+{
+    wire_put::put(out, 0, b"big\t");
+    let at = number(out, 4, offset, TAB);
+    number(out, at, length as u64, NEWLINE)
 }
 
 // Writes the line of a refusal and answers its length.

@@ -10,7 +10,7 @@ ghost use Rattle.opmsg.specs.Read.{header};
 ghost use Rattle.opmsg.specs.Inner.{judged};
 
 // The most bytes of a message.
-pub const MAX_LENGTH: u32 = 49_152;
+pub const MAX_LENGTH: u32 = 48_000_000;
 
 // An opcode of an older protocol.
 fn older(code: u32) -> bool

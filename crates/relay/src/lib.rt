@@ -6,6 +6,7 @@ pub use listing::stream::next;
 pub use listing_buffer::to_front;
 pub use listing_lines::Summary;
 pub use listing_lines::bad_line;
+pub use listing_lines::big_line;
 pub use listing_lines::end_line;
 pub use listing_lines::first_line;
 pub use listing_lines::message_line;

@@ -2,21 +2,33 @@
 use libc::STDERR_FILENO;
 use libc::STDIN_FILENO;
 use libc::STDOUT_FILENO;
-use relay::Step;
-use relay::Summary;
+use listing::Run;
+use listing::Turn;
+use listing::turns::start;
+use listing::turns::turn;
 ghost use mathlib.Core.Path.{_≡_};
-ghost use Prim.Native.Nat.{_+_, _-_, _<_, _≤_};
-ghost use lib.ListN.{length};
-ghost use Rattle.relay_log.specs.Inner.{bufferLength, turns, Held};
+ghost use Prim.Native.Nat.{_-_, _<_, _≤_};
+ghost use lib.ListN.{length, take, drop};
+ghost use Rattle.listing_lines.specs.Lines.{version, firstLine, endLine};
+ghost use Rattle.listing.specs.Next.{bufferLength};
+ghost use Rattle.listing.specs.Run.{turn};
+ghost use Rattle.listing.specs.Inner.{Near};
+ghost use Rattle.relay_log.specs.Inner.{held, Lies, Held, Taken, Took};
 
-// Where a run stands: the bytes at hand are those of the buffer from `at` to `end`, and `offset` counts those before them.
+// Where the program stands: the bytes at hand are those of the buffer from `at` to `end`, and behind them more may come unless the input
+// has ended.
 struct Progress {
     at: usize,
     end: usize,
-    offset: u64,
-    messages: u64,
     ended: bool,
     done: bool,
+    run: Run,
+}
+
+// What a turn was, and whether its line could be printed.
+struct Shown {
+    turn: Turn,
+    printed: bool,
 }
 
 // Writes to standard output; where that fails, standard error says so.
@@ -28,112 +40,130 @@ fn print(text: &[u8]) -> bool {
     false
 }
 
-fn print_first() -> bool {
-    let mut line = [0u8; 256];
-    let n = relay::first_line(&mut line);
-    print(&line[..n])
+// Prints the line of a turn, which it asks its caller for: no contract can say what was printed.
+fn print_turn(text: &[u8], run: Run, s: &[u8], ended: bool) -> bool
+    requires { ⌜ now text ≡ turn run ended (now s) .line ⌝ }
+{
+    print(text)
 }
 
-fn print_message(offset: u64, m: Summary) -> bool {
-    let mut line = [0u8; 256];
-    let n = relay::message_line(&mut line, offset, m);
-    print(&line[..n])
+// The same of the first line, and of the last.
+fn print_first(text: &[u8]) -> bool
+    requires { ⌜ now text ≡ firstLine version ⌝ }
+{
+    print(text)
 }
 
-fn print_bad(offset: u64, number: u32, place: usize) -> bool {
-    let mut line = [0u8; 256];
-    let n = relay::bad_line(&mut line, offset, number, place);
-    print(&line[..n])
+fn print_end(text: &[u8], messages: u64) -> bool
+    requires { ⌜ now text ≡ endLine messages ⌝ }
+{
+    print(text)
 }
 
-fn print_end(messages: u64) -> bool {
+// Takes a turn over the bytes at hand, s, and prints its line.
+fn show(run: Run, s: &[u8], ended: bool) -> Shown
+    requires { ⌜ Near run ⌝ }
+    ensures { λ r. ⌜ Taken (turn run ended (now (s .entry))) (r .turn) ⌝ }
+{
     let mut line = [0u8; 256];
-    let n = relay::end_line(&mut line, messages);
-    print(&line[..n])
+    let t = turn(run, s, ended, &mut line);
+    let n = t.line;
+    let printed = print_turn(&line[..n], run, s, ended);
+    Shown { turn: t, printed }
 }
 
-// Moves the bytes at hand to the front and reads on behind them, where there is room; answers their end. A read that fails
-// counts as the end of the input, and standard error says so.
+// Moves the bytes at hand to the front and reads on behind them, where there is room, so that no byte read means the end; answers where
+// what was read ends. A read that fails counts as the end of the input, and standard error says so.
 fn fill(fd: i32, buf: &mut [u8], at: usize, end: usize) -> usize
-    requires { ⌜ (at ≤ end) × (end - at < length (now buf)) ⌝ }
-    ensures { λ r. ⌜ r ≤ length (now (buf .entry)) ⌝ }
+    requires { ⌜ (at ≤ end) × (end ≤ length (now buf)) × (end - at < length (now buf)) ⌝ }
+    ensures front { λ _. ⌜ take (end - at) (now (buf .exit)) ≡ take (end - at) (drop at (now (buf .entry))) ⌝ }
+    ensures inside { λ r. ⌜ (end - at ≤ r) × (r ≤ length (now (buf .entry))) ⌝ }
 {
     relay::to_front(buf, at, end);
-    let held = end - at;
-    let room = &mut buf[held..];
+    let kept = end - at;
+    let room = &mut buf[kept..];
     let got = libc::read(fd, room);
     if got < 0 {
         os::fail(b"relay_log: read");
     }
-    held + io::count(got, room)
+    kept + io::count(got, room)
 }
 
-// Takes what comes next.
-fn turn(fd: i32, buf: &mut [u8], run: Progress) -> Progress
-    requires { ⌜ Held run × (bufferLength ≡ length (now buf)) × (run .messages < turns) ⌝ }
-    ensures { λ r. ⌜ Held r × (r .messages ≤ run .messages + 1) ⌝ }
+// Takes a turn, prints its line, and reads on where it asks for more.
+fn step(fd: i32, buf: &mut [u8], p: Progress) -> Progress
+    requires { ⌜ Held p × (bufferLength ≡ length (now buf)) ⌝ }
+    ensures took { λ r. ⌜ Took (turn (p .run) (p .ended) (held p (now (buf .entry)))) p (now (buf .entry)) r (now (buf .exit)) ⌝ }
+    ensures lies { λ r. ⌜ Lies r ⌝ }
 {
-    let mut run = run;
-    let at = run.at;
-    let end = run.end;
-    match relay::next(&buf[at..end], run.ended) {
-        Step::Message(m) => {
-            run.done = !print_message(run.offset, m);
-            run.at = at + m.length as usize;
-            run.offset += m.length as u64;
-            run.messages += 1;
-        }
-        Step::Bad { number, place } => {
-            print_bad(run.offset, number, place);
-            run.done = true;
-        }
-        Step::More => {
-            run.end = fill(fd, buf, at, end);
-            run.at = 0;
-            run.ended = run.end == end - at;
-        }
-        Step::End => run.done = true,
+    let at = p.at;
+    let end = p.end;
+    let shown = show(p.run, &buf[at..end], p.ended);
+    let t = shown.turn;
+    let run = t.run;
+    let from = at + t.used;
+    let mut done = true;
+    if shown.printed {
+        done = run.done;
     }
-    run
+    if t.more {
+        let to = fill(fd, buf, from, end);
+        return Progress {
+            at: 0,
+            end: to,
+            ended: to == end - from,
+            done,
+            run,
+        };
+    }
+    Progress {
+        at: from,
+        end,
+        ended: p.ended,
+        done,
+        run,
+    }
 }
 
 // A proved loop has to end, and nothing says that the input does. So the loop counts its turns down, from a number that no run uses up.
 fn list(fd: i32, buf: &mut [u8]) -> u64
     requires { ⌜ bufferLength ≡ length (now buf) ⌝ }
 {
-    let mut run = Progress {
+    let run = start();
+    let mut p = Progress {
         at: 0,
         end: 0,
-        offset: 0,
-        messages: 0,
         ended: false,
         done: false,
+        run,
     };
-    let mut left: u64 = 0x1_0000_0000_0000;
+    let mut left: u64 = 0x8000_0000_0000;
     while left > 0 {
-        run = turn(fd, buf, run);
-        if run.done {
+        p = step(fd, buf, p);
+        if p.done {
             break;
         }
         left -= 1;
     }
-    run.messages
+    p.run.messages
 }
 
 // The whole listing of what a descriptor gives.
 fn list_all(fd: i32) {
-    if !print_first() {
+    let mut line = [0u8; 256];
+    let n = relay::first_line(&mut line);
+    if !print_first(&line[..n]) {
         return;
     }
     let mut space = io::large_buffer();
     let messages = list(fd, &mut space);
-    print_end(messages);
+    let m = relay::end_line(&mut line, messages);
+    print_end(&line[..m], messages);
 }
 
 fn help(fd: i32) {
     io::write_all(
         fd,
-        b"usage: relay_log [FILE]\n\nLists the OP_MSG messages that FILE, or standard input, has back to back, up to the first\nthat is refused. Fields are parted by tabs:\n\n  msg  offset length requestID responseTo flags sequences elements\n  bad  offset number place      a refusal; the place is counted from the message\n  end  messages                 how many were read\n",
+        b"usage: relay_log [FILE]\n\nLists the OP_MSG messages that FILE, or standard input, has back to back, up to the first\nthat is refused. Fields are parted by tabs:\n\n  msg  offset length requestID responseTo flags sequences elements\n  big  offset length            a message over 65,536 bytes, passed over unread\n  bad  offset number place      a refusal; the place is counted from the message\n  end  messages                 how many were read or passed over\n",
     );
 }
 

@@ -115,14 +115,14 @@ document-at-returns-4 t c =
 -- what is known of an arm: where the value lies, that the limit is not reached, and that places do not wrap
 plain-arm : (t : ℕ) (c : element-lts.After-start (element-calls t) (element-at t) element-reads.Post)
     → let a = c .before .before .before .before .args in
-    (2 ≤ c .start .given .0 .0) × (c .start .given .0 .0 + c .start .given .0 .1 .0 ≤ length (a .s .now)) × (a .count < 4096)
+    (2 ≤ c .start .given .0 .0) × (c .start .given .0 .0 + c .start .given .0 .1 .0 ≤ length (a .s .now)) × (a .count < 2 ^ 31)
 plain-arm t c =
     let l = rw (c .start .given .1) at (c .before .before .head .ensures .1) in
     (l .0, l .1, few _ _ _ _ (sym (c .before .before .head .ensures .0) ∙ ap outline (c .start .given .1)))
 
 embedded-arm : (t : ℕ) (c : element-lts.After-start2 (element-calls t) (element-at t) element-reads.Post)
     → let a = c .before .before .before .before .args in
-    (2 ≤ c .start2 .given .0 .0) × (c .start2 .given .0 .0 ≤ length (a .s .now)) × (a .count < 4096) × (a .at + length (a .s .now) < 2 ^ 64)
+    (2 ≤ c .start2 .given .0 .0) × (c .start2 .given .0 .0 ≤ length (a .s .now)) × (a .count < 2 ^ 31) × (a .at + length (a .s .now) < 2 ^ 64)
 embedded-arm t c =
     let l = rw (c .start2 .given .1) at (c .before .before .head .ensures .1) in
     (l .0, l .1, few _ _ _ _ (sym (c .before .before .head .ensures .0) ∙ ap outline (c .start2 .given .1)), c .before .before .before .before .pre .1 .1)
@@ -130,7 +130,7 @@ embedded-arm t c =
 scoped-arm : (t : ℕ) (c : element-lts.After-start3 (element-calls t) (element-at t) element-reads.Post)
     → let a = c .before .before .before .before .args in
     let v = c .start3 .given .0 in
-    (2 ≤ v .0) × (v .1 .0 ≤ v .1 .1 .0) × (v .0 + v .1 .1 .0 ≤ length (a .s .now)) × (a .count < 4096) × (a .at + length (a .s .now) < 2 ^ 64)
+    (2 ≤ v .0) × (v .1 .0 ≤ v .1 .1 .0) × (v .0 + v .1 .1 .0 ≤ length (a .s .now)) × (a .count < 2 ^ 31) × (a .at + length (a .s .now) < 2 ^ 64)
 scoped-arm t c =
     let l = rw (c .start3 .given .1) at (c .before .before .head .ensures .1) in
     (l .0, l .1, l .2, few _ _ _ _ (sym (c .before .before .head .ensures .0) ∙ ap outline (c .start3 .given .1)), c .before .before .before .before .pre .1 .1)

@@ -1,36 +1,22 @@
--- `listing::stream::judge` meets its contract: the reading's verdict tells which.
+-- `listing::stream::judge` meets its contract: a long message is passed over, any other is read.
 -- Assumes nothing.
-use mir.Syntax.{w32}
-use mir.Facts.{toZ-ofZ}
 use borrow.Author.Needs.{needs}
-use Rattle.opmsg.specs.Flags.{house}
-use Rattle.opmsg.specs.Read.{read}
-use Rattle.listing.specs.Next.{stepOf}
-use Rattle.opmsg.proofs.Answered.{answer-refused, answer-accepted}
-use Rattle.listing.proofs.Next.{within-bytes}
+use Rattle.wire.specs.Bytes.{wordAt}
+use Rattle.listing.specs.Next.{judge}
 use Rattle.listing.proofs.stream.judge.Statement.{statement}
 use Rattle.listing.proofs.stream.judge.Tie as tie
 
 returns : tie.Need-returns
-unfolding stepOf
+unfolding judge wordAt
 returns c =
-    let p3 = c .before .before .before in
-    let start = p3 .before .before .before in
-    let is = rw (p3 .before .house .ensures) at (p3 .read .ensures) in
-    (rw (answer-refused (read house (start .args .s .now)) (p3 .read .result) is (c .before .verdict .given .1)), tt)
+    let p2 = c .before .before in
+    rw (judge, ← p2 .long .ensures, c .before .if1 .taken, wordAt, ← c .word .ensures)
 
 returns-2 : tie.Need-returns-2
-unfolding stepOf
+unfolding judge
 returns-2 c =
-    let p3 = c .before .before .before in
-    let p5 = p3 .before .before in
-    let start = p5 .before .before .before in
-    let v = p5 .read .result .view in
-    let is = rw (p5 .before .house .ensures) at (p5 .read .ensures) in
-    let a = answer-accepted (read house (start .args .s .now)) (p5 .read .result) is (p3 .enum-told .given .1) in
-    let first = toZ-ofZ {w = w32} {z = v .«request_id»} (record { sfits = c .struct-told .given .1 .0 .1 }) in
-    let second = toZ-ofZ {w = w32} {z = v .«response_to»} (record { sfits = c .struct-told .given .1 .1 .0 .1 }) in
-    (rw (a, first, second, ← c .before .sequence-count .ensures), within-bytes house (start .args .s .now) v a)
+    let p2 = c .before .before in
+    rw (judge, ← p2 .long .ensures, c .before .if1 .left, ← c .read-step .ensures)
 
 pub judge-spec : {M : Type 1} → statement M
 judge-spec =
@@ -38,8 +24,6 @@ judge-spec =
     (tie.spec
     (λ c κs. search needs)
     (λ c κs. search needs)
-    (λ c. search needs)
     returns
-    (λ c. search needs)
     (λ c κs. search needs)
     returns-2)

@@ -3,8 +3,7 @@
 use borrow.Author.Needs.{needs}
 use borrow.Author.Tests.{lt-ltb, le-ltb, le-leb, lt-leb}
 use Rattle.wire.specs.Bytes.{wordAt}
-use Rattle.opmsg.specs.Layout.{maxLength}
-use Rattle.listing.specs.Next.{short}
+use Rattle.listing.specs.Next.{bufferLength, short}
 use Rattle.listing.proofs.stream.short.Statement.{statement}
 use Rattle.listing.proofs.stream.short.Tie as tie
 
@@ -15,14 +14,14 @@ returns-2 c =
     rw (short, le-ltb _ _ (p2 .before .if1 .left), wordAt, ← p2 .word .ensures, ← c .before .under .ensures, c .if2 .taken)
 
 returns-3 : tie.Need-returns-3
-unfolding short wordAt maxLength
+unfolding short wordAt bufferLength
 returns-3 c =
     let p2 = c .before .before in
     let p3 = p2 .before in
     rw (short, le-ltb _ _ (p3 .before .if1 .left), wordAt, ← p3 .word .ensures, ← p2 .under .ensures, c .before .if2 .left, lt-leb _ _ (c .if3 .taken))
 
 returns-4 : tie.Need-returns-4
-unfolding short wordAt maxLength
+unfolding short wordAt bufferLength
 returns-4 c =
     let p2 = c .before .before in
     let p3 = p2 .before in
