@@ -15,7 +15,7 @@ use Rattle.listing_lines.specs.Lines.{firstLine, messageLine, bigLine, badLine,
 use Rattle.listing.specs.Listing.{Entry, messagesOf, lines, listed}
 use Rattle.listing_stored.specs.Version.{Version, versions}
 use Rattle.listing_stored.specs.Stored.{Position, start, Told, readListing}
-use Rattle.listing_stored.proofs.Fields.{joined}
+use Rattle.listing_fields.proofs.Fields.{joined}
 use Rattle.listing_stored.proofs.Judged.{Cut, cut-of, empty, cut, rest, run, run-empty, run-line, run-rest}
 use Rattle.listing_stored.proofs.Versions.{version-found, answered, read-run, read-behind, answered-ok, answered-ended}
 use Rattle.listing_grammar.specs.Grammar.{Unsigned64, Entries, Listing}

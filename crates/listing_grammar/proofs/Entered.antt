@@ -17,11 +17,11 @@ use Rattle.listing_lines.specs.Fields.{newline}
 use Rattle.listing_lines.specs.Lines.{messageLine, bigLine, badLine, endLine}
 use Rattle.listing_lines.specs.declared.Summary.{Summary}
 use Rattle.listing_stored.specs.Version.{Version, versions, leastMessage, leastBig, mostBig}
-use Rattle.listing_stored.specs.Numbers.{fieldsOf, field, spelledSigned, isSigned32}
+use Rattle.listing_fields.specs.Numbers.{fieldsOf, field, spelledSigned, isSigned32}
 use Rattle.listing_stored.specs.Stored.{Position, Rule, kinds, ruleOf}
 use Rattle.listing_stored.specs.Stored as rules
-use Rattle.listing_stored.proofs.Fields.{joined, AllPlain, OneLine, joined-line, joined-fields, fields-joined, same-text, line-joined}
-use Rattle.listing_stored.proofs.Numbers.{decimal-plain, signed-plain, number-decimal, number-ok, between-decimal, between-ok, exactly-decimal, exactly-ok, signed-decimal, signed-ok}
+use Rattle.listing_fields.proofs.Fields.{joined, AllPlain, OneLine, joined-line, joined-fields, fields-joined, same-text, line-joined}
+use Rattle.listing_fields.proofs.Numbers.{decimal-plain, signed-plain, number-decimal, number-ok, between-decimal, between-ok, exactly-decimal, exactly-ok, signed-decimal, signed-ok}
 use Rattle.listing_stored.proofs.Judged.{judged, chosen}
 use Rattle.listing_stored.proofs.Versions.{either}
 use Rattle.listing_grammar.specs.Grammar.{Unsigned64, Signed32, Allowed}

@@ -24,7 +24,7 @@ use Rattle.listing_lines.specs.Lines.{firstLine, messageLine, bigLine, badLine,
 use Rattle.listing.specs.Next.{bufferLength, long, stepOf, judge, next}
 use Rattle.listing.specs.Listing.{entriesOf, entries, messagesOf, lines, listed, pingAndThree, listing}
 use Rattle.listing_stored.specs.Version.{versions}
-use Rattle.listing_stored.specs.Numbers.{untilNewline, ahead, fieldsOf, spelled, spelledSigned, isSigned32, number, between, signedNumber}
+use Rattle.listing_fields.specs.Numbers.{untilNewline, ahead, fieldsOf, spelled, spelledSigned, isSigned32, number, between, signedNumber}
 use Rattle.listing_stored.specs.Stored.{message, big, bad, end, kinds, ruleOf, lineAt, versionOf, Told, readListing}
 
 abbrev shown : (version messages : ℕ) → Outcome Told

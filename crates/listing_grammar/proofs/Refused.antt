@@ -19,11 +19,11 @@ use Rattle.listing_lines.specs.Fields.{newline}
 use Rattle.listing_lines.specs.Lines.{firstLine}
 use Rattle.listing.specs.Listing.{messagesOf, listed}
 use Rattle.listing_stored.specs.Version.{Version, versions}
-use Rattle.listing_stored.specs.Numbers.{untilNewline, fieldsOf, field, number, between, signedNumber}
+use Rattle.listing_fields.specs.Numbers.{untilNewline, fieldsOf, field, number, between, signedNumber}
 use Rattle.listing_stored.specs.Stored.{Position, start, Rule, Kind, kinds, ruleOf, versionOf, Told, readListing}
 use Rattle.listing_stored.specs.Stored as rules
-use Rattle.listing_stored.proofs.Fields.{joined, OneLine, joined-line, line-joined, until-end, fields-joined}
-use Rattle.listing_stored.proofs.Numbers.{decimal-plain, exactly-decimal}
+use Rattle.listing_fields.proofs.Fields.{joined, OneLine, joined-line, line-joined, until-end, fields-joined}
+use Rattle.listing_fields.proofs.Numbers.{decimal-plain, exactly-decimal}
 use Rattle.listing_stored.proofs.Judged.{judged, Cut, cut-of, empty, cut, rest, run, run-empty, run-line, run-rest}
 use Rattle.listing_stored.proofs.Versions.{one, version-found, version-refused, answered, read-run, read-behind, answered-ended}
 use Rattle.listing_grammar.specs.Grammar.{Entries, Listing}

@@ -11,7 +11,7 @@ use Rattle.listing_lines.specs.Words.{ascii}
 use Rattle.listing_lines.specs.Fields.{line}
 use Rattle.listing_lines.specs.Lines.{firstLine}
 use Rattle.listing_stored.specs.Version.{versions}
-use Rattle.listing_stored.specs.Numbers.{untilNewline, ahead, fieldsOf, spelled, spelledSigned, isSigned32, number, between, signedNumber}
+use Rattle.listing_fields.specs.Numbers.{untilNewline, ahead, fieldsOf, spelled, spelledSigned, isSigned32, number, between, signedNumber}
 use Rattle.listing_stored.specs.Stored.{message, big, bad, end, kinds, ruleOf, lineAt, versionOf, Told, readListing}
 
 abbrev shown : (version messages : ℕ) → Outcome Told

@@ -1,7 +1,7 @@
 -- Laws of reading line by line: a line is judged by its text, and a listing by its lines, one after the other.
 -- Assumes nothing.
 use Prim.Native.Nat.{ℕ, zero, suc, _+_, _≤_, _<_}
-use mathlib.Core.Bool.{Bool, true, false, not, _&&_}
+use mathlib.Core.Bool.{Bool, true, false}
 use mathlib.Core.Path.{_≡_, refl, sym, ap, _∙_}
 use mathlib.Core.List.{List, [], _∷_, _++_}
 use native.Mathlib.Omega.{arith}
@@ -9,7 +9,7 @@ use lib.ListN.{length, take, drop, length-append, length-drop}
 use lib.Seq.{take-append-seam, drop-append-add}
 use lib.Dec.{leb}
 use borrow.Author.Tests.{leb-true, leb-false, lt-leb, le-leb}
-use Rattle.wire.specs.Outcome.{Outcome, ok, refused, refuse, _>>=_}
+use Rattle.wire.specs.Outcome.{Outcome, ok, refused, _>>=_}
 use Rattle.wire.specs.Walk.{Step, step, walk}
 use Rattle.wire.proofs.Outcome.{not-ok, ok-same, went, passed, pass, stop, halt, same-after, assoc}
 use Rattle.wire.proofs.Walk.{walk-done, walk-step, step-size}
@@ -17,17 +17,10 @@ use Rattle.opmsg.specs.Names.{sameText}
 use Rattle.listing_lines.specs.Words
 use Rattle.listing_lines.specs.Fields.{newline}
 use Rattle.listing_stored.specs.Version.{Version}
-use Rattle.listing_stored.specs.Numbers.{untilNewline, fieldsOf, field}
+use Rattle.listing_fields.specs.Numbers.{untilNewline, fieldsOf, field}
 use Rattle.listing_stored.specs.Stored.{Position, Rule, Kind, kinds, ruleOf, message, big, bad, end, lineAt}
-use Rattle.listing_stored.proofs.Fields.{same-text, OneLine, until-end, until-line, until-split}
-
--- a line at a position, by its text without the newline
-unfoldable pub judged : Version → Position → List ℕ → Outcome Position
-judged v p l = do
-  _ ← refuse 38 (p .line) (p .ended)
-  _ ← refuse 38 (p .line) (p .bad && not (sameText (field 0 (fieldsOf l)) Words.end))
-  rule ← ruleOf kinds (p .line) (field 0 (fieldsOf l))
-  rule v p (fieldsOf l)
+unfoldable pub use Rattle.listing_stored.specs.Inner.{judged, run}
+use Rattle.listing_fields.proofs.Fields.{same-text, OneLine, until-end, until-line, until-split}
 
 -- the rule of a kind of line
 pub rule-first : {P : Type 0} (kind : Kind) (rest : List Kind) (k : ℕ) (w : List ℕ) (r : Rule) → ruleOf (kind ∷ rest) k w ≡ ok r
@@ -95,10 +88,6 @@ line-advances v at xs p one h =
     omega (arith, step-size (e .2))
 
 -- ---- all lines
-
--- the lines of xs from a position on
-unfoldable pub run : Version → List ℕ → Position → Outcome Position
-run v xs p = walk (lineAt v) (length xs) 0 xs p
 
 -- neither the place nor more turns than bytes change anything
 pub walk-run : (v : Version) (m n at other : ℕ) (xs : List ℕ) (p : Position) → length xs ≤ m → length xs ≤ n → walk (lineAt v) m at xs p ≡ walk (lineAt v) n other xs p

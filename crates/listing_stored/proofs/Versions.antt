@@ -5,17 +5,20 @@ use mathlib.Core.Bool.{Bool, true, false, not}
 use mathlib.Core.Path.{_≡_, refl, sym, ap, _∙_}
 use mathlib.Core.List.{List, [], _∷_, _++_, List·Memᴰ, List·Memᴰ·head, List·Memᴰ·tail}
 use native.Mathlib.Omega.{arith}
-use lib.ListN.{length, take, drop, length-drop, take-append-drop}
+use lib.ListN.{length, take, drop, length-append, length-drop, take-append-drop}
 use lib.Seq.{drop-append-seam}
-use Rattle.wire.specs.Outcome.{Outcome, ok, refused, refuse, _>>=_}
-use Rattle.wire.proofs.Outcome.{not-ok, ok-same, passed, pass, go-on}
+use Rattle.wire.specs.Outcome.{Outcome, ok, refused, _>>=_}
+use Rattle.wire.proofs.Outcome.{not-ok, ok-same, passed, pass, go-on, halt}
 use Rattle.opmsg.specs.Names.{sameText}
 use Rattle.listing_lines.specs.Decimal.{digits, decimal}
+use Rattle.listing_lines.specs.Words.{ascii}
 use Rattle.listing_lines.specs.Fields.{line}
 use Rattle.listing_lines.specs.Lines.{firstLine}
 use Rattle.listing_stored.specs.Version.{Version, versions}
 use Rattle.listing_stored.specs.Stored.{Position, start, versionOf, Told, readListing}
-use Rattle.listing_stored.proofs.Fields.{same-text}
+unfoldable pub use Rattle.listing_stored.specs.Inner.{answered}
+use Rattle.listing_stored.specs.Inner.{allLines}
+use Rattle.listing_fields.proofs.Fields.{same-text}
 use Rattle.listing_stored.proofs.Judged.{run, walk-run}
 
 -- ---- the first line
@@ -82,13 +85,21 @@ second-is r = refl
 pub version-of : (v : Version) (r : List ℕ) → List·Memᴰ v versions → versionOf versions (firstLine (v .number) ++ r) ≡ ok v
 version-of v r m = either v m (λ e. rw e (first-is r)) (λ e. rw e (second-is r))
 
--- ---- what stands behind it
+-- the version by the bytes of its line
+module _ (s : List ℕ) where
+  pub begins-1 : sameText (take 12 s) (ascii "relay-log\t1\n") ≡ true → versionOf versions s ≡ ok one
+  unfolding versionOf versions firstLine line decimal digits
+  begins-1 e = rw (versionOf, e)
 
--- the answer at the end of the lines
-unfoldable pub answered : Version → Position → Outcome Told
-answered v p = do
-  _ ← refuse 38 (p .line) (not (p .ended))
-  ok (record { version = v .number; messages = p .messages })
+  pub begins-2 : sameText (take 12 s) (ascii "relay-log\t1\n") ≡ false → sameText (take 12 s) (ascii "relay-log\t2\n") ≡ true → versionOf versions s ≡ ok two
+  unfolding versionOf versions firstLine line decimal digits
+  begins-2 d e = rw (versionOf, d, versionOf, e)
+
+  pub begins-else : sameText (take 12 s) (ascii "relay-log\t1\n") ≡ false → sameText (take 12 s) (ascii "relay-log\t2\n") ≡ false → versionOf versions s ≡ refused 38 1
+  unfolding versionOf versions firstLine line decimal digits
+  begins-else d e = rw (versionOf, d, versionOf, e)
+
+-- ---- what stands behind it
 
 pub read-run : (s : List ℕ) (v : Version) → versionOf versions s ≡ ok v
     → readListing s ≡ (run v (drop (length (firstLine (v .number))) s) start >>= answered v)
@@ -112,3 +123,24 @@ answered-ok v p t h = let a = passed _ _ _ _ h in (ended (p .ended) (a .0), ok-s
 pub answered-ended : (v : Version) (p : Position) → p .ended ≡ true → answered v p ≡ ok (record { version = v .number; messages = p .messages })
 unfolding answered
 answered-ended v p e = pass 38 (p .line) _ (ap not e)
+
+-- ---- as it is read
+
+module _ (s : List ℕ) where
+  pub read-none : versionOf versions s ≡ refused 38 1 → readListing s ≡ refused 38 1
+  unfolding readListing
+  read-none e = halt _ e
+
+  module _ (v : Version) (e : versionOf versions s ≡ ok v) where
+    first-length : length (firstLine (v .number)) ≡ 12
+    unfolding firstLine line decimal digits
+    first-length = either v (version-found s versions v e .0) (λ d. rw d) (λ d. rw d)
+
+    pub long-enough : 12 ≤ length s
+    long-enough =
+        let l = firstLine (v .number) in
+        let whole : length (l ++ drop (length l) s) ≡ length s = ap length (version-found s versions v e .1) in
+        omega (arith, length-append l (drop (length l) s), first-length)
+
+    pub read-lines : readListing s ≡ allLines v (drop 12 s)
+    read-lines = read-run s v e ∙ rw first-length

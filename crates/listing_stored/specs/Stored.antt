@@ -11,7 +11,7 @@ use Rattle.opmsg.specs.Names.{sameText}
 use Rattle.listing_lines.specs.Words
 use Rattle.listing_lines.specs.Lines.{firstLine}
 use Rattle.listing_stored.specs.Version.{Version, versions, leastMessage, leastBig, mostBig}
-use Rattle.listing_stored.specs.Numbers.{untilNewline, fieldsOf, field, number, between, exactly, signedNumber}
+use Rattle.listing_fields.specs.Numbers.{untilNewline, fieldsOf, field, number, between, exactly, signedNumber}
 
 -- how far a listing is read: the number of the next line, the offset and the number of messages up to it, and whether `bad` and `end` were passed
 pub record Position : Type 0 where

@@ -13,11 +13,15 @@ ghost use lib.ListN.{length};
 ghost use Rattle.opmsg.specs.Names.{never, distinct, elementNames};
 ghost use Rattle.opmsg.specs.Inner.{judged, Filled};
 ghost use Rattle.opmsg_element_names.specs.Inner.{First};
+ghost use Rattle.opmsg_name_slots.specs.Inner.{Attempt};
 
 // How many names are few: a small table has room for them, and slots would cost more than they save.
 const FEW: usize = 64;
 
-// A table for few names, and one for many.
+// How many names a middling table serves best: each pass over more of them costs more than a larger one, which takes longer to keep sorted.
+const MANY: usize = 32_768;
+
+// Tables for few names, for many, and for as many as a message may have.
 fn few_places() -> [u32; 64]
     ensures { λ r. ⌜ length r ≡ 64 ⌝ }
 {
@@ -28,6 +32,12 @@ fn many_places() -> [u32; 2048]
     ensures { λ r. ⌜ length r ≡ 2048 ⌝ }
 {
     [0u32; 2048]
+}
+
+fn most_places() -> [u32; 16384]
+    ensures { λ r. ⌜ length r ≡ 16384 ⌝ }
+{
+    [0u32; 16384]
 }
 
 // The place of the first element whose name is an earlier one's, or the end, by a small table.
@@ -48,16 +58,45 @@ fn by_large_blocks(xs: &[u8]) -> usize
     by_blocks(xs, &mut table)
 }
 
-// The same by slots, while names stand at most so many steps behind where they belong, all together; then by a large table.
+// The same by the largest.
+fn by_largest_blocks(xs: &[u8]) -> usize
+    requires { ⌜ Filled (now xs) × (length (now xs) < 2 ^ 32) ⌝ }
+    ensures { λ r. ⌜ First (now (xs .entry)) r ⌝ }
+{
+    let mut table = most_places();
+    by_blocks(xs, &mut table)
+}
+
+// The same by one of these two, chosen by a number of names.
+fn by_many_blocks(xs: &[u8], number: usize) -> usize
+    requires { ⌜ Filled (now xs) × (length (now xs) < 2 ^ 32) ⌝ }
+    ensures { λ r. ⌜ First (now (xs .entry)) r ⌝ }
+{
+    if number <= MANY {
+        return by_large_blocks(xs);
+    }
+    by_largest_blocks(xs)
+}
+
+// What comes of slots, while names stand at most so many steps behind where they belong, all together. The slots are gone from the frame
+// before a table is made.
+fn tried_slots(xs: &[u8], steps: usize) -> Tried
+    requires { ⌜ Filled (now xs) × (length (now xs) < 2 ^ 32) ⌝ }
+    ensures { λ r. ⌜ Attempt (now (xs .entry)) r ⌝ }
+{
+    let mut slots = many_slots();
+    by_slots(xs, &mut slots, steps)
+}
+
+// The same by slots, and where these are crowded by a table.
 fn by_slots_first(xs: &[u8], number: usize) -> usize
     requires { ⌜ Filled (now xs) × (length (now xs) < 2 ^ 32) ⌝ }
     ensures { λ r. ⌜ First (now (xs .entry)) r ⌝ }
 {
-    let mut slots = many_slots();
-    let t = by_slots(xs, &mut slots, number);
+    let t = tried_slots(xs, number);
     match t {
         Tried::Place(p) => p,
-        Tried::Crowded => by_large_blocks(xs),
+        Tried::Crowded => by_many_blocks(xs, number),
     }
 }
 

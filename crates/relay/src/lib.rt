@@ -10,6 +10,8 @@ pub use listing_lines::big_line;
 pub use listing_lines::end_line;
 pub use listing_lines::first_line;
 pub use listing_lines::message_line;
+pub use listing_stored::Stored;
+pub use listing_stored::read_listing;
 pub use message_append::append;
 pub use message_forward::forward;
 pub use message_move::move_body;

@@ -15,7 +15,9 @@ ghost use Rattle.message.specs.Forward.{forward};
 ghost use Rattle.message.specs.Write.{write};
 ghost use Rattle.message.specs.Append.{append};
 ghost use Rattle.message.specs.Move.{move};
+ghost use Rattle.listing_stored.specs.Stored.{readListing};
 ghost use Rattle.relay_c_results.specs.Interface.{editionOf, withRoom, result, numbers};
+ghost use Rattle.relay_c_listing.specs.Interface.{withAnswer, listingNumbers};
 
 #[no_mangle]
 pub extern "C" fn relay_read(bits: u32, sequences: u8, message: &[u8], view: &mut [i64]) -> u64
@@ -122,4 +124,12 @@ pub extern "C" fn relay_move(
         return without_view(message_move::check(e, message, behind, out.len()));
     }
     answered(message_move::move_body(e, message, behind, out), view)
+}
+
+#[no_mangle]
+pub extern "C" fn relay_read_listing(listing: &[u8], answer: &mut [i64]) -> u64
+    ensures answers { λ r. ⌜ r ≡ result (withAnswer (length (now (answer .entry))) (readListing (now (listing .entry)))) ⌝ }
+    ensures shows { λ _. ⌜ now (answer .exit) ≡ listingNumbers (withAnswer (length (now (answer .entry))) (readListing (now (listing .entry)))) (now (answer .entry)) ⌝ }
+{
+    relay_c_listing::answer_listing(listing, answer)
 }

@@ -11,7 +11,7 @@ use lib.Dec.{eqb}
 use borrow.Author.Tests.{eqb-true, eq-eqb, ne-eqb}
 use Rattle.opmsg.specs.Names.{sameText}
 use Rattle.listing_lines.specs.Fields.{tab, newline, line}
-use Rattle.listing_stored.specs.Numbers.{untilNewline, ahead, fieldsOf}
+use Rattle.listing_fields.specs.Numbers.{untilNewline, ahead, fieldsOf}
 
 -- ---- texts that are compared
 

@@ -12,8 +12,8 @@ use borrow.Author.Tests.{ltb-false, leb-false, le-ltb, lt-leb, not-false, ne-eqb
 use Rattle.wire.specs.Outcome.{ok, refuse, _>>=_}
 use Rattle.wire.proofs.Outcome.{ok-same, went, passed, clear, pass, go-on}
 use Rattle.listing_lines.specs.Decimal.{digit, digits, decimal, signedDecimal}
-use Rattle.listing_stored.specs.Numbers.{spelled, spelledSigned, isSigned32, number, between, exactly, signedNumber}
-use Rattle.listing_stored.proofs.Fields.{text-same, same-text, Plain}
+use Rattle.listing_fields.specs.Numbers.{spelled, spelledSigned, isSigned32, number, between, exactly, signedNumber}
+use Rattle.listing_fields.proofs.Fields.{text-same, same-text, Plain}
 
 -- ---- what is written in decimal
 
