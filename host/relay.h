@@ -1,6 +1,6 @@
 /*
  * relay.h - reads, forwards, writes, extends and reorders MongoDB OP_MSG
- * messages.
+ * messages, and reads stored listings of them.
  *
  * For C99 or C++11, and later ones. Link with librelay_c.a, which is for
  * x86-64 Linux and needs the C library alone.
@@ -11,6 +11,8 @@
  *   relay_append     copies a message with one more document sequence
  *   relay_move       copies a message with its body at another place among its
  *                    document sequences
+ *   relay_read_listing
+ *                    checks a listing that was made by the program relay_log
  *
  *     struct relay_view view;
  *     uint64_t result = relay_read(RELAY_HOUSE_BITS, 1, bytes, length,
@@ -73,7 +75,8 @@
  * 2^32 plus its place. relay_number() and relay_place() take the two apart,
  * relay_words() says what a number means. A place is counted in bytes from the
  * start of the message that is read, or of the message that the call would
- * have written. Every call ends with an answer, whatever the bytes are.
+ * have written; of a listing it is the number of a line, and relay_line() has
+ * it whole. Every call ends with an answer, whatever the bytes are.
  *
  * Streams. RELAY_BUFFER_UNDER_16 and RELAY_BUFFER_SHORT say that the buffer
  * does not hold a whole message yet: receive more bytes and call again. After
@@ -85,12 +88,15 @@
  * are. Each pointer must be valid for its length; a pointer with length 0 may
  * be NULL. `output` and `view` must not overlap each other or any input; inputs
  * may overlap. `view` must be aligned for int64_t, as a struct relay_view is;
- * bytes may stand anywhere.
+ * bytes may stand anywhere. The same goes for a listing's `answer` as for a
+ * view. An output as long as the message suffices to forward it or to move its
+ * body; the calls that write more say how much.
  *
- *   On a refusal neither the output nor the view changes.
+ *   On a refusal neither the output nor the view nor the answer changes.
  *   On acceptance every byte of the written message and each of the 107 numbers
- *   of the view is decided by the call alone, whatever was there before; bytes
- *   of the output past the message and numbers of the view past the 107th stay.
+ *   of the view, or of the 2 of the answer, is decided by the call alone,
+ *   whatever was there before; bytes of the output past the message and numbers
+ *   of the view past the 107th, or of the answer past the 2nd, stay.
  */
 #ifndef RELAY_H
 #define RELAY_H
@@ -102,17 +108,22 @@
 extern "C" {
 #endif
 
-#define RELAY_VERSION "0.2.0"
+#define RELAY_VERSION "0.3.0"
 
 /*
- * The limits are the library's own: MongoDB takes longer and deeper messages.
+ * The limits are the library's own. A MongoDB server takes messages of the same
+ * length, but more elements and deeper documents.
  */
 
-/* The longest message in bytes; an output of this length always has room. */
-#define RELAY_MAX_LENGTH 49152
+/*
+ * The longest message in bytes. An output of this length always has room, but
+ * it is too long for most stacks: take it from the heap, or take only as much
+ * as the message to come needs.
+ */
+#define RELAY_MAX_LENGTH 48000000
 
 /* The most elements in a message, at all levels of all its documents. */
-#define RELAY_MAX_ELEMENTS 4096
+#define RELAY_MAX_ELEMENTS 262144
 
 /* The deepest level at which a document may stand. */
 #define RELAY_MAX_LEVELS 32
@@ -198,6 +209,28 @@ typedef char relay_view_is_107_numbers
 #define RELAY_VIEW(pointer) ((int64_t *)(void *)(pointer)), RELAY_VIEW_NUMBERS
 
 /*
+ * What an accepted listing tells: the two numbers that relay_read_listing
+ * writes, in order.
+ */
+struct relay_listing {
+    int64_t version;  /* 1 or 2 */
+    int64_t messages; /* how many messages are listed */
+};
+
+/* How many numbers a listing has. */
+#define RELAY_LISTING_NUMBERS 2
+
+/* Fails to compile where the structure is not just the two numbers. */
+typedef char relay_listing_is_2_numbers
+    [sizeof(struct relay_listing) == RELAY_LISTING_NUMBERS * sizeof(int64_t) ? 1 : -1];
+
+/*
+ * Passes a pointer to a struct relay_listing as the last two arguments of
+ * relay_read_listing, `answer` and `answer_len`.
+ */
+#define RELAY_LISTING(pointer) ((int64_t *)(void *)(pointer)), RELAY_LISTING_NUMBERS
+
+/*
  * The four functions below are for the view of an accepted message.
  */
 
@@ -244,7 +277,7 @@ static inline const struct relay_entry *relay_sequence(const struct relay_view *
  * 23, and 24 of the first identifier that clashes in any way. A text's 27 comes
  * directly after the checks of its own length and zero byte: an identifier's
  * after 13, a name's after 18, and in a value a text's after its own 19 and
- * before what follows it there.
+ * before what follows it there. 38 is given for listings alone.
  */
 enum relay_refusal {
     RELAY_ACCEPTED = 0,
@@ -275,7 +308,8 @@ enum relay_refusal {
     RELAY_OUTPUT_SHORT = 25,         /* 0 */
     RELAY_TEXT_NOT_UTF8 = 27,        /* the byte after the text's longest
                                         beginning that is UTF-8 */
-    RELAY_MOVE_TOO_FAR = 28          /* 0 */
+    RELAY_MOVE_TOO_FAR = 28,         /* 0 */
+    RELAY_BAD_LINE = 38              /* the number of the line, from 1 */
 };
 
 /* The refusal's number in a result; RELAY_ACCEPTED if there is none. */
@@ -288,6 +322,17 @@ static inline enum relay_refusal relay_number(uint64_t result)
 static inline uint32_t relay_place(uint64_t result)
 {
     return (uint32_t)result;
+}
+
+/*
+ * The number of the line, counted from 1, in a result of relay_read_listing
+ * that is 38 times 2^32 or more. A number from 2^32 on spills over the
+ * refusal's, so that relay_number() would not show 38 and relay_place() not the
+ * line; it takes a listing of over 80 GB.
+ */
+static inline uint64_t relay_line(uint64_t result)
+{
+    return result - ((uint64_t)RELAY_BAD_LINE << 32);
 }
 
 /*
@@ -306,7 +351,7 @@ static inline const char *relay_words(enum relay_refusal number)
     case RELAY_BUFFER_UNDER_16:
         return "buffer is under 16 bytes";
     case RELAY_LENGTH_OUT_OF_RANGE:
-        return "messageLength is under 16 or over 49,152";
+        return "messageLength is under 16 or over 48,000,000";
     case RELAY_BUFFER_SHORT:
         return "buffer is shorter than messageLength";
     case RELAY_OLD_OPCODE:
@@ -346,7 +391,7 @@ static inline const char *relay_words(enum relay_refusal number)
     case RELAY_TOO_DEEP:
         return "document stands at level 33";
     case RELAY_TOO_MANY_ELEMENTS:
-        return "element is number 4,097 of its message";
+        return "element is number 262,145 of its message";
     case RELAY_NO_BODY:
         return "message has no body";
     case RELAY_NAME_TWICE:
@@ -360,6 +405,8 @@ static inline const char *relay_words(enum relay_refusal number)
         return "name, identifier, string or part of a regular expression is not UTF-8";
     case RELAY_MOVE_TOO_FAR:
         return "body is to move behind more sequences than the message has";
+    case RELAY_BAD_LINE:
+        return "line of a stored listing is bad or missing";
     }
     return "no such refusal";
 }
@@ -403,9 +450,9 @@ uint64_t relay_forward(uint32_t bits, uint8_t sequences,
  *   body                              body_len bytes, one BSON document
  *
  * Refusals, in this order: 8 at 16 if any set bit is not known, the optional
- * bits 16 to 31 too; 2 at 0 if the message would be over 49,152 bytes; 25 at 0
- * if the output is shorter than the message; 15 at 21 if the body is under 4
- * bytes or the length it states is not body_len; those of relay_read on the
+ * bits 16 to 31 too; 2 at 0 if the message would be over 48,000,000 bytes; 25
+ * at 0 if the output is shorter than the message; 15 at 21 if the body is under
+ * 4 bytes or the length it states is not body_len; those of relay_read on the
  * new message; 25 at 0 if the view is shorter than 107 numbers.
  */
 uint64_t relay_write(uint32_t bits, uint8_t sequences,
@@ -427,10 +474,10 @@ uint64_t relay_write(uint32_t bits, uint8_t sequences,
  * messageLength or 4 less with a checksum: those of relay_read on the message;
  * 10 at E if kind 1 is not known; 14 at E if it has sixteen sequences; 13 at
  * E + 5 if the identifier is empty or holds a zero; 2 at 0 if the new length is
- * over 49,152; 25 at 0 if the output is shorter than the new length; those of
- * relay_read on the new message, so that an identifier that is not UTF-8 is 27
- * from E + 5 on, before the documents are looked at, and one that clashes is 24
- * at E + 5, after them; 25 at 0 if the view is shorter than 107 numbers.
+ * over 48,000,000; 25 at 0 if the output is shorter than the new length; those
+ * of relay_read on the new message, so that an identifier that is not UTF-8 is
+ * 27 from E + 5 on, before the documents are looked at, and one that clashes is
+ * 24 at E + 5, after them; 25 at 0 if the view is shorter than 107 numbers.
  */
 uint64_t relay_append(uint32_t bits, uint8_t sequences,
                       const uint8_t *message, size_t message_len,
@@ -461,6 +508,41 @@ uint64_t relay_move(uint32_t bits, uint8_t sequences,
                     uint32_t behind,
                     uint8_t *output, size_t output_len,
                     int64_t *view, size_t view_len);
+
+/*
+ * Reads a stored listing, which the program relay_log has made of a stream of
+ * messages, and answers its version and how many messages it lists.
+ *
+ *   listing    listing_len bytes: the whole listing and nothing else
+ *   answer     answer_len numbers, at least 2; see RELAY_LISTING
+ *
+ * A listing is made of lines, each ended by a newline, with fields parted by
+ * tabs:
+ *
+ *   relay-log, version                    the first line; version is 1 or 2
+ *   msg, offset, length, requestID,       a message that was accepted
+ *     responseTo, flags, sequences,
+ *     elements
+ *   big, offset, length                   a longer one, which was passed over;
+ *                                         in version 2 alone
+ *   bad, offset, number, place            a refusal, which ended the stream
+ *   end, messages                         the last line
+ *
+ * Numbers are decimal, without leading zeros, a plus or -0. The ids are signed
+ * 32-bit numbers, all others unsigned 64-bit numbers. A msg has at most 16
+ * sequences, and in version 1 at most 4,096 elements and a length of 26 to
+ * 49,152, in version 2 at most 262,144 elements and a length of 26 to 65,536.
+ * The length of a big is 65,537 to 48,000,000. Each offset, also that of a bad,
+ * is the sum of the lengths before it. Only end follows a bad, and nothing
+ * follows end, which counts the lines of msg and big. Nothing else is checked.
+ *
+ * Refusals: 38 with the number, from 1, of the first line that is bad or
+ * missing; see relay_line(). A last line without its newline is bad, and so is
+ * whatever stands behind end; an empty listing misses line 1. Then 25 at 0 if
+ * the answer is shorter than 2 numbers.
+ */
+uint64_t relay_read_listing(const uint8_t *listing, size_t listing_len,
+                            int64_t *answer, size_t answer_len);
 
 #ifdef __cplusplus
 }

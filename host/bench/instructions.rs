@@ -30,7 +30,7 @@ use common::dotted;
 use common::message::{get_u32, with_flags};
 use common::names::{message_of, Family};
 use common::reference::MAX_SEQUENCES;
-use relay::{ffi, Edition, MAX_LENGTH, VIEW_NUMBERS};
+use relay::{ffi, Edition, VIEW_NUMBERS};
 use std::env;
 use std::hint::black_box;
 use std::iter::once;
@@ -194,7 +194,7 @@ fn run(call: &str, name: &str, calls: &str) -> Option<()> {
     };
     let bits = HOUSE.bits;
     let mut view = [0; VIEW_NUMBERS];
-    let mut output = vec![0; MAX_LENGTH];
+    let mut output = vec![0; bytes.len()];
     for _ in 0..calls {
         let bytes = black_box(&bytes);
         let result = match deed {

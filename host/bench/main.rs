@@ -14,16 +14,21 @@
 //!
 //! Where libbson is installed (apt-get install libbson-dev), its
 //! `bson_validate` is measured too, on all documents of each message.
+//!
+//! A last table has what a byte costs in messages of 4 KB to 48 MB, which are
+//! made alike; `cargo bench -- long` prints it alone.
 
 mod bson;
 #[path = "../tests/common/mod.rs"]
 mod common;
+mod long;
 mod mix;
 mod plain;
 mod timing;
 
 use mix::Item;
-use relay::{ffi, Edition, MAX_LENGTH, VIEW_NUMBERS};
+use relay::{ffi, Edition, VIEW_NUMBERS};
+use std::env;
 use std::hint::black_box;
 use timing::{medians, SAMPLES};
 
@@ -34,6 +39,9 @@ const PLAIN_HOUSE: plain::Edition = plain::Edition {
 };
 
 fn main() {
+    if env::args().any(|argument| argument == "long") {
+        return long::print();
+    }
     let mut items = mix::mix();
     items.extend(mix::texts());
     println!("Nanoseconds for each call, medians over {SAMPLES} samples.");
@@ -62,6 +70,8 @@ fn main() {
     }
     println!();
     bson::compare(&items, &reads);
+    println!();
+    long::print();
 }
 
 /// The contenders must give the same answer, or the ratio says nothing.
@@ -72,8 +82,7 @@ fn check(item: &Item) {
     assert_eq!(view.elements, other.elements);
     assert_eq!(view.sections().len(), other.used);
 
-    let mut one = vec![0; MAX_LENGTH];
-    let mut two = vec![0; MAX_LENGTH];
+    let [mut one, mut two, _] = outputs(item);
     relay::forward(&HOUSE, &item.message, &mut one).expect("accepted");
     plain::forward(PLAIN_HOUSE, &item.message, &mut two).expect("accepted");
     assert!(one == two);
@@ -116,7 +125,7 @@ fn measure_read(item: &Item) -> f64 {
 fn measure_forward(item: &Item) {
     let message = &item.message;
     let mut view = [0; VIEW_NUMBERS];
-    let [mut one, mut two, mut three] = outputs();
+    let [mut one, mut two, mut three] = outputs(item);
     let times = medians([
         &mut || {
             let result = ffi::forward(HOUSE.bits, 1, black_box(message), &mut one, &mut view);
@@ -138,7 +147,7 @@ fn measure_forward(item: &Item) {
 fn measure_write(item: &Item) {
     let (flags, body) = (item.flags, &item.body);
     let mut view = [0; VIEW_NUMBERS];
-    let [mut one, mut two, mut three] = outputs();
+    let [mut one, mut two, mut three] = outputs(item);
     let times = medians([
         &mut || {
             let body = black_box(body);
@@ -162,7 +171,7 @@ fn measure_write(item: &Item) {
 fn measure_append(item: &Item) {
     let (message, identifier, documents) = (&item.shorter, &item.identifier, &item.documents);
     let mut view = [0; VIEW_NUMBERS];
-    let [mut one, mut two, mut three] = outputs();
+    let [mut one, mut two, mut three] = outputs(item);
     let times = medians([
         &mut || {
             let result = ffi::append(
@@ -196,7 +205,7 @@ fn measure_append(item: &Item) {
 fn measure_move(item: &Item) {
     let (message, behind) = (&item.message, item.behind);
     let mut view = [0; VIEW_NUMBERS];
-    let [mut one, mut two, mut three] = outputs();
+    let [mut one, mut two, mut three] = outputs(item);
     let times = medians([
         &mut || {
             let message = black_box(message);
@@ -220,7 +229,7 @@ fn measure_move(item: &Item) {
 fn measure_passes(item: &Item, read: f64) {
     let message = &item.message;
     let length = message.len();
-    let [mut output, ..] = outputs();
+    let [mut output, ..] = outputs(item);
     let [copy, checksum] = medians([
         &mut || {
             output[..length].copy_from_slice(black_box(message));
@@ -245,6 +254,10 @@ fn print_row(name: &str, length: usize, call: &str, [library, safe, plain]: [f64
     );
 }
 
-fn outputs() -> [Vec<u8>; 3] {
-    [(); 3].map(|()| vec![0; MAX_LENGTH])
+/// Outputs with room for every message that is made of the item: append adds
+/// most.
+fn outputs(item: &Item) -> [Vec<u8>; 3] {
+    let message = item.message.len().max(item.body.len());
+    let room = message + item.identifier.len() + item.documents.len() + 100;
+    [(); 3].map(|()| vec![0; room])
 }

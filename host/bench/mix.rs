@@ -49,6 +49,44 @@ pub fn texts() -> Vec<Item> {
     ]
 }
 
+/// An insert of at most this length, with one sequence of as many records as
+/// fit. Each record carries a remark, so that one of 48,000,000 bytes has not
+/// too many elements; all lengths have the same mix of records.
+pub fn long_insert(length: usize) -> Vec<u8> {
+    let body = insert_body(&ENGLISH);
+    let frame = Draft::new(vec![
+        Section::Body(body.clone()),
+        Section::Sequence {
+            identifier: ENGLISH.documents.as_bytes().to_vec(),
+            documents: Vec::new(),
+        },
+    ]);
+    let mut left = length - frame.bytes().len();
+    let mut documents = Vec::new();
+    let mut random = Random::new(6);
+    for index in 0.. {
+        let remark = in_any_order(&mut random, ENGLISH.remark, REMARK);
+        let mut elements = record_elements(&ENGLISH, index);
+        elements.extend(element(0x02, b"remark", &string(remark.as_bytes())));
+        let record = document(&elements);
+        if record.len() > left {
+            break;
+        }
+        left -= record.len();
+        documents.extend(record);
+    }
+    let mut draft = frame;
+    draft.sections[1] = Section::Sequence {
+        identifier: ENGLISH.documents.as_bytes().to_vec(),
+        documents,
+    };
+    draft.bytes()
+}
+
+/// About how many bytes a record's remark has. With eight elements a record of
+/// fewer than 1,465 bytes would come too often in 48,000,000.
+const REMARK: usize = 1_350;
+
 /// The words of an insert and of its records in one language.
 struct Words {
     collection: &'static str,
@@ -181,13 +219,7 @@ fn without_sequences(name: &'static str, body: Vec<u8>) -> Item {
 /// A command that carries a text of about 16,000 bytes, which has the words of
 /// a sentence in any order: a text that comes again and again is foreseen.
 fn long_text(name: &'static str, sentence: &str) -> Item {
-    let words: Vec<&str> = sentence.split_whitespace().collect();
-    let mut random = Random::new(16);
-    let mut text = String::new();
-    while text.len() < 16_000 {
-        text.push_str(random.pick(&words));
-        text.push(' ');
-    }
+    let text = in_any_order(&mut Random::new(16), sentence, 16_000);
     let body = document(
         &[
             element(0x02, b"remark", &string(text.as_bytes())),
@@ -199,9 +231,20 @@ fn long_text(name: &'static str, sentence: &str) -> Item {
     without_sequences(name, body)
 }
 
-/// An insert with so many sequences of so many records.
-fn insert(name: &'static str, words: &Words, sequences: usize, records: usize, flags: u32) -> Item {
-    let body = document(
+/// The words of a sentence in any order, of this length or a little more.
+fn in_any_order(random: &mut Random, sentence: &str, length: usize) -> String {
+    let words: Vec<&str> = sentence.split_whitespace().collect();
+    let mut text = String::new();
+    while text.len() < length {
+        text.push_str(random.pick(&words));
+        text.push(' ');
+    }
+    text
+}
+
+/// The body of an insert, whose records stand in sequences.
+fn insert_body(words: &Words) -> Vec<u8> {
+    document(
         &[
             element(0x02, b"insert", &string(words.collection.as_bytes())),
             element(0x08, b"ordered", &[1]),
@@ -209,7 +252,12 @@ fn insert(name: &'static str, words: &Words, sequences: usize, records: usize, f
             element(0x02, b"$db", &string(words.database.as_bytes())),
         ]
         .concat(),
-    );
+    )
+}
+
+/// An insert with so many sequences of so many records.
+fn insert(name: &'static str, words: &Words, sequences: usize, records: usize, flags: u32) -> Item {
+    let body = insert_body(words);
     let run: Vec<u8> = (0..records)
         .flat_map(|index| record(words, index))
         .collect();
@@ -248,21 +296,23 @@ fn with_array(body: &[u8], words: &Words, records: usize) -> Vec<u8> {
 
 /// One run of a meter.
 fn record(words: &Words, index: usize) -> Vec<u8> {
+    document(&record_elements(words, index))
+}
+
+fn record_elements(words: &Words, index: usize) -> Vec<u8> {
     let mut id = [0x5A; 12];
     id[8..].copy_from_slice(&(index as u32).to_be_bytes());
     let meter = string(words.meter_name.as_bytes());
-    document(
-        &[
-            element(0x07, b"_id", &id),
-            element(0x02, words.meter.as_bytes(), &meter),
-            number(words.mass.as_bytes(), 997.1 + index as f64),
-            number(words.seconds.as_bytes(), 60.02),
-            number(words.flow.as_bytes(), 16.61),
-            number(words.uncertainty.as_bytes(), 0.03),
-            element(0x08, words.signed.as_bytes(), &[1]),
-        ]
-        .concat(),
-    )
+    [
+        element(0x07, b"_id", &id),
+        element(0x02, words.meter.as_bytes(), &meter),
+        number(words.mass.as_bytes(), 997.1 + index as f64),
+        number(words.seconds.as_bytes(), 60.02),
+        number(words.flow.as_bytes(), 16.61),
+        number(words.uncertainty.as_bytes(), 0.03),
+        element(0x08, words.signed.as_bytes(), &[1]),
+    ]
+    .concat()
 }
 
 fn number(name: &[u8], value: f64) -> Vec<u8> {

@@ -8,11 +8,11 @@
 
 use std::collections::HashSet;
 
-pub const MAX_LENGTH: usize = 49_152;
+pub const MAX_LENGTH: usize = 48_000_000;
 pub const MAX_SEQUENCES: usize = 16;
 pub const MAX_SECTIONS: usize = MAX_SEQUENCES + 1;
 const MAX_LEVELS: usize = 32;
-const MAX_ELEMENTS: usize = 4_096;
+const MAX_ELEMENTS: usize = 262_144;
 
 /// A refusal's number and place.
 pub type Refused = (u32, usize);

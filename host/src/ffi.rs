@@ -2,8 +2,9 @@
 //!
 //! This is the only module with unsafe code. The functions here take an
 //! edition as two numbers and answer the library's own result: 0 for
-//! accepted, else the refusal's number times 2^32 plus its place. The crate's
-//! own functions, [`crate::read`] and the others, are easier to use.
+//! accepted, else the refusal's number times 2^32 plus its place, for a listing
+//! plus the number of the line. The crate's own functions, [`crate::read`] and
+//! the others, are easier to use.
 
 /// The C declarations; `relay.h` says what each one promises.
 pub mod c {
@@ -68,6 +69,13 @@ pub mod c {
             output_len: usize,
             view: *mut i64,
             view_len: usize,
+        ) -> u64;
+
+        pub fn relay_read_listing(
+            listing: *const u8,
+            listing_len: usize,
+            answer: *mut i64,
+            answer_len: usize,
         ) -> u64;
     }
 }
@@ -189,6 +197,18 @@ pub fn move_body(
             output.len(),
             view.as_mut_ptr(),
             view.len(),
+        )
+    }
+}
+
+/// Calls `relay_read_listing`.
+pub fn read_listing(listing: &[u8], answer: &mut [i64]) -> u64 {
+    unsafe {
+        c::relay_read_listing(
+            listing.as_ptr(),
+            listing.len(),
+            answer.as_mut_ptr(),
+            answer.len(),
         )
     }
 }

@@ -1,4 +1,5 @@
-//! Reads, forwards, writes, extends and reorders MongoDB OP_MSG messages.
+//! Reads, forwards, writes, extends and reorders MongoDB OP_MSG messages, and
+//! reads the listings of them that the program `relay_log` has made.
 //!
 //! The work is done by a library whose rules are proved; this crate is a safe
 //! cover over its C interface. Every call ends with an answer: the [`View`] of
@@ -6,6 +7,12 @@
 //! call changes no byte of the lent output. An accepted call decides every
 //! byte of the message it writes, and the bytes of the output past that
 //! message stay as they were.
+//!
+//! An output as long as the message suffices to [`forward`] it or to move its
+//! body. [`write()`] makes 21 bytes more than the body has, and 4 more with a
+//! checksum; [`append`] makes 6 more than the message, the identifier and the
+//! documents have. [`MAX_LENGTH`] bytes are room for all, but they are too many
+//! for the stack.
 //!
 //! ```
 //! use relay::{append, move_body, read, Edition, Section};
@@ -37,20 +44,24 @@
 
 #[allow(unsafe_code)]
 pub mod ffi;
+mod listing;
 mod refusal;
 mod view;
 
+pub use listing::{read_listing, Listing, LISTING_NUMBERS};
 pub use refusal::Refusal;
 pub use view::{Section, Sequence, View, VIEW_NUMBERS};
 
 /// The version of the crate and of `relay.h`.
 pub const VERSION: &str = env!("CARGO_PKG_VERSION");
 
-/// The longest message in bytes; an output of this length always has room.
-pub const MAX_LENGTH: usize = 49_152;
+/// The longest message in bytes; an output of this length always has room. It
+/// belongs on the heap, and where memory is dear, one that is as long as the
+/// message to come is enough.
+pub const MAX_LENGTH: usize = 48_000_000;
 
 /// The most elements in a message, at all levels of all its documents.
-pub const MAX_ELEMENTS: usize = 4_096;
+pub const MAX_ELEMENTS: usize = 262_144;
 
 /// The deepest level at which a document may stand; that of a section's
 /// document is 1.
@@ -113,18 +124,23 @@ pub fn read(edition: &Edition, message: &[u8]) -> Result<View, Refusal> {
 /// bits cleared and, where bit 0 is set, its checksum worked out anew.
 ///
 /// The output must have room for the message, else the refusal is
-/// [`Refusal::OutputShort`].
+/// [`Refusal::OutputShort`]: one as long as the message suffices.
 ///
 /// ```
 /// use relay::{forward, Edition};
 ///
 /// // Bit 17 of the flag word is set; the house edition does not know it.
 /// let message = b"\x1A\0\0\0\x07\0\0\0\0\0\0\0\xDD\x07\0\0\0\0\x02\0\0\x05\0\0\0\0";
-/// let mut output = [0xAA; 30];
+/// let mut output = vec![0; message.len()];
 /// let view = forward(&Edition::HOUSE, message, &mut output)?;
 /// assert_eq!(view.flags, 0);
 /// assert_eq!(output[16..20], [0, 0, 0, 0]);
-/// assert_eq!(output[26..], [0xAA; 4]);
+///
+/// // Bytes past the message stay.
+/// let mut longer = [0xAA; 30];
+/// forward(&Edition::HOUSE, message, &mut longer)?;
+/// assert_eq!(longer[..26], output);
+/// assert_eq!(longer[26..], [0xAA; 4]);
 /// # Ok::<(), relay::Refusal>(())
 /// ```
 pub fn forward(edition: &Edition, message: &[u8], output: &mut [u8]) -> Result<View, Refusal> {

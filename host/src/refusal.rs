@@ -7,7 +7,9 @@ macro_rules! refusals {
         /// Why a call was refused; every case carries its place in the message.
         ///
         /// The place is counted in bytes from the start of the message, or of
-        /// the message that the call would have written.
+        /// the message that the call would have written. [`Refusal::BadLine`]
+        /// alone has the number of a line of a stored listing for it, counted
+        /// from 1.
         ///
         /// ```
         /// use relay::{read, Edition, Refusal};
@@ -35,14 +37,15 @@ macro_rules! refusals {
                 }
             }
 
-            /// The number: 1 to 25, 27 or 28.
+            /// The number: 1 to 25, 27, 28 or 38.
             pub fn number(&self) -> u32 {
                 match self {
                     $(Refusal::$name(_) => $number,)*
                 }
             }
 
-            /// The place, counted in bytes from the start of the message.
+            /// The place, counted in bytes from the start of the message; in
+            /// a stored listing the number of the line, counted from 1.
             pub fn place(&self) -> usize {
                 match self {
                     $(Refusal::$name(place) => *place,)*
@@ -61,7 +64,7 @@ macro_rules! refusals {
 
 refusals! {
     1 BufferUnder16 "buffer is under 16 bytes",
-    2 LengthOutOfRange "messageLength is under 16 or over 49,152",
+    2 LengthOutOfRange "messageLength is under 16 or over 48,000,000",
     3 BufferShort "buffer is shorter than messageLength",
     4 OldOpcode "message of an older protocol (opCode 1, 2001, 2002, 2004 to 2007)",
     5 CompressedOpcode "compressed message (opCode 2012)",
@@ -80,13 +83,14 @@ refusals! {
     18 NameWithoutZero "element's name has no zero byte before the document's last byte",
     19 BadValue "element's value breaks its type's rule or passes the document's last byte",
     20 TooDeep "document stands at level 33",
-    21 TooManyElements "element is number 4,097 of its message",
+    21 TooManyElements "element is number 262,145 of its message",
     22 NoBody "message has no body",
     23 NameTwice "body has a top-level name that equals an earlier one",
     24 IdentifierClash "sequence's identifier is a top-level name of the body, an earlier identifier, or a dotted path to a name in the body",
     25 OutputShort "output is too short for the message, or view for its 107 numbers",
     27 TextNotUtf8 "name, identifier, string or part of a regular expression is not UTF-8",
     28 MoveTooFar "body is to move behind more sequences than the message has",
+    38 BadLine "line of a stored listing is bad or missing",
 }
 
 impl fmt::Display for Refusal {
@@ -120,17 +124,35 @@ pub(crate) fn from_result(result: u64) -> Result<(), Refusal> {
     }
 }
 
+/// The least result of a bad line: its number in the place of the refusal's.
+const BAD_LINE: u64 = 38 << 32;
+
+/// Takes the result for a stored listing apart: 0 is accepted, and all others
+/// are lines, even where their numbers have more than 32 bits.
+///
+/// # Panics
+///
+/// If the result is no line, which the library promises never to answer where
+/// there is room for its numbers.
+pub(crate) fn from_listing_result(result: u64) -> Result<(), Refusal> {
+    match result {
+        0 => Ok(()),
+        BAD_LINE.. => Err(Refusal::BadLine((result - BAD_LINE) as usize)),
+        _ => panic!("the relay library answered {result:#x}, which is no line"),
+    }
+}
+
 #[cfg(test)]
 mod tests {
     use super::*;
 
     #[test]
-    fn every_number_from_1_to_25_27_and_28_and_no_other_is_a_refusal() {
-        for number in (1..=25).chain([27, 28]) {
+    fn every_number_from_1_to_25_27_28_and_38_and_no_other_is_a_refusal() {
+        for number in (1..=25).chain([27, 28, 38]) {
             let refusal = Refusal::new(number, 7).expect("a refusal");
             assert_eq!((refusal.number(), refusal.place()), (number, 7));
         }
-        for number in [0, 26, 29, u32::MAX] {
+        for number in [0, 26, 29, 30, 37, 39, u32::MAX] {
             assert_eq!(Refusal::new(number, 7), None);
         }
     }
@@ -138,8 +160,28 @@ mod tests {
     #[test]
     fn a_result_holds_number_and_place() {
         assert_eq!(from_result(0), Ok(()));
-        let result = (19 << 32) | 49_151;
-        assert_eq!(from_result(result), Err(Refusal::BadValue(49_151)));
+        let result = (19 << 32) | 47_999_999;
+        assert_eq!(from_result(result), Err(Refusal::BadValue(47_999_999)));
+    }
+
+    #[test]
+    fn the_number_of_a_line_may_pass_32_bits() {
+        assert_eq!(from_listing_result(0), Ok(()));
+        for line in [1, 2, u32::MAX as usize, 1 << 32, (1 << 32) + 5] {
+            let result = (38 << 32) + line as u64;
+            assert_eq!(from_listing_result(result), Err(Refusal::BadLine(line)));
+        }
+        let shown = Refusal::BadLine(3).to_string();
+        assert_eq!(
+            shown,
+            "refusal 38 at 3: line of a stored listing is bad or missing"
+        );
+    }
+
+    #[test]
+    #[should_panic(expected = "no line")]
+    fn a_result_below_the_lines_is_not_taken() {
+        let _ = from_listing_result(25 << 32);
     }
 
     #[test]

@@ -113,9 +113,11 @@ fn any_case(random: &mut Random) -> Case {
 }
 
 /// A message, of a hundred so many with something wrong, and at times with
-/// bytes after it.
+/// bytes after it. Seldom it has about as many elements as there may be.
 fn any_message(random: &mut Random, edition: &Edition, wrong: usize) -> Vec<u8> {
-    let mut bytes = if !random.percent(wrong) {
+    let mut bytes = if random.below(250) == 0 {
+        overcrowded_draft(random, edition).bytes()
+    } else if !random.percent(wrong) {
         any_draft(random, edition).bytes()
     } else if random.percent(50) {
         faulty_draft(random, edition).bytes()
@@ -179,13 +181,19 @@ fn any_body(random: &mut Random, flags: u32) -> Vec<u8> {
             deep_document(random, levels)
         }
         18 if random.percent(30) => {
-            let count = random.between(4_090, 4_100);
+            let count = match random.below(5) {
+                0 => any_overcrowd(random),
+                _ => random.between(MANY - 6, MANY + 6),
+            };
             crowded_document(random, count)
         }
         18 => {
-            let body = any_document(random, style);
             let frame = 21 + if flags & 1 == 1 { 4 } else { 0 };
-            let target = random.between(MAX_MESSAGE - 2, MAX_MESSAGE + 2);
+            if random.percent(6) {
+                return huge(random, frame);
+            }
+            let body = any_document(random, style);
+            let target = random.between(LONG - 2, LONG + 2);
             padded(&body, target - frame - body.len())
         }
         _ => {
@@ -193,6 +201,14 @@ fn any_body(random: &mut Random, flags: u32) -> Vec<u8> {
             random.bytes(length)
         }
     }
+}
+
+/// Bytes that make, with so many others, a message of about the greatest
+/// length. They are not looked at: either that is too long, or there is no room
+/// for it.
+fn huge(random: &mut Random, others: usize) -> Vec<u8> {
+    let target = random.between(MAX_MESSAGE - 1, MAX_MESSAGE + 4);
+    vec![0; target - others]
 }
 
 fn any_append(random: &mut Random, edition: &Edition) -> Call {
@@ -266,12 +282,19 @@ fn any_run(random: &mut Random, message: usize) -> Vec<u8> {
             deep_document(random, levels)
         }
         5 if random.percent(30) => {
-            let count = random.between(4_085, 4_097);
+            let count = match random.below(10) {
+                0 => any_overcrowd(random),
+                _ => random.between(MANY - 6, MANY + 6),
+            };
             crowded_document(random, count)
         }
-        5 if message + 60 < MAX_MESSAGE => {
-            // The identifier and what follows the message make it more or less.
-            let target = MAX_MESSAGE - random.below(24);
+        // The identifier and what follows the message make it more or less.
+        5 if random.percent(8) => {
+            let less = random.below(24);
+            huge(random, message + less)
+        }
+        5 if message + 60 < LONG => {
+            let target = LONG - random.below(24);
             padded(&EMPTY, target - message - EMPTY.len())
         }
         6 => [any_documents(random, style), bad_text_document(random)].concat(),
@@ -279,9 +302,11 @@ fn any_run(random: &mut Random, message: usize) -> Vec<u8> {
     }
 }
 
-/// An output's length: too short, just right, or longer.
+/// An output's length: too short, just right, or longer. For a message of about
+/// the greatest length it is too short.
 fn any_room(random: &mut Random, needed: usize) -> usize {
     match random.below(20) {
+        _ if needed > MAX_MESSAGE - 100 => random.below(100),
         0 => needed.saturating_sub(1),
         1 => random.below(needed + 1),
         2 => 0,
@@ -340,17 +365,13 @@ impl Call {
     }
 }
 
-/// messageLength where it makes sense, else the buffer's length.
+/// messageLength where the buffer has so many bytes, else the buffer's length.
 fn stated_length(message: &[u8]) -> usize {
     if message.len() < 4 {
         return message.len();
     }
     let stated = get_u32(message, 0) as usize;
-    if stated <= MAX_MESSAGE {
-        stated
-    } else {
-        message.len()
-    }
+    stated.min(message.len())
 }
 
 // ---------------------------------------------------------------- outcomes
@@ -571,8 +592,8 @@ fn first_difference<T: PartialEq>(left: &[T], right: &[T]) -> Option<usize> {
 // ------------------------------------------------------------------- tally
 
 const FEATURES: [&str; 15] = [
-    "accepted with 49,152 bytes",
-    "accepted with 4,096 elements",
+    "accepted with over 49,152 bytes",
+    "accepted with over 4,096 elements",
     "accepted with 16 sequences",
     "accepted, body not first",
     "accepted with a checksum",
@@ -689,8 +710,8 @@ impl Tally {
         }
         self.places[stood] += 1;
         let seen = [
-            view.length == MAX_MESSAGE,
-            view.elements == reference::MAX_ELEMENTS,
+            view.length > LONG,
+            view.elements > MANY,
             last == reference::MAX_SEQUENCES,
             place != 0,
             sum,

@@ -1,7 +1,7 @@
 //! Compiles C programs against `relay.h` and the archive, as C and as C++, runs
 //! them and compares what they print.
 
-use relay::{Edition, Refusal, VERSION, VIEW_NUMBERS};
+use relay::{Edition, Refusal, LISTING_NUMBERS, VERSION, VIEW_NUMBERS};
 use relay::{MAX_ELEMENTS, MAX_LENGTH, MAX_LEVELS, MAX_SECTIONS, MAX_SEQUENCES};
 use std::fs;
 use std::path::{Path, PathBuf};
@@ -107,16 +107,19 @@ fn the_header_says_what_the_crate_says() {
     expected.push("second entry 11".to_string());
     expected.extend(places(&entry));
     expected.push("kinds 0 1 -1".to_string());
+    expected.push(format!("listing_numbers {LISTING_NUMBERS}"));
+    expected.extend(["version 0", "messages 1"].map(String::from));
     for count in 0..=MAX_SEQUENCES {
         for behind in 0..=count {
             expected.push(sections(behind, count));
         }
     }
-    for number in 1..=29 {
-        let refusal = Refusal::new(number, 49_151);
+    for number in 1..=40 {
+        let refusal = Refusal::new(number, 47_999_999);
         let words = refusal.map_or("no such refusal", |refusal| refusal.words());
-        expected.push(format!("{number} at 49151: {words}"));
+        expected.push(format!("{number} at 47999999: {words}"));
     }
+    expected.extend([1, (1 << 32) + 5_u64].map(|line| format!("line {line}")));
     for (compiler, standard) in COMPILERS {
         let printed = run(&compile(compiler, standard, "tests/c/header.c"));
         let printed: Vec<&str> = printed.lines().collect();

@@ -13,18 +13,19 @@
 //! RELAY_CASES=100000 RELAY_SEED=2 cargo test --release --test names
 //! ```
 //!
-//! Names that crowd the library's slots are kept in blocks of 2,048, so that a
-//! message, which has at most 4,096 elements, reaches two of them.
+//! Names that crowd the library's slots are kept in blocks: of 2,048 where there
+//! are up to 32,768 of them, else of 16,384. The bodies here have up to 33,000
+//! names; those with as many as there may be are in `limits.rs`.
 
 mod common;
 
 use common::bson::*;
 use common::dotted;
-use common::generate::{any_element, Style};
+use common::generate::{any_element, Style, LONG, MANY};
 use common::message::{Draft, Section};
 use common::names::Family;
 use common::random::Random;
-use common::reference::{self, Edition, Refused, View, MAX_ELEMENTS, MAX_MESSAGE, VIEW_NUMBERS};
+use common::reference::{self, Edition, Refused, View, VIEW_NUMBERS};
 use common::setting;
 use common::text::{any_character, any_text};
 use relay::ffi;
@@ -38,6 +39,9 @@ const HOUSE: Edition = Edition {
 /// What the view and the output are filled with first.
 const NUMBER: i64 = -7_777;
 const BYTE: u8 = 0xAA;
+
+/// The most bytes of a message with more names than a long one has.
+const FAR: usize = 500_000;
 
 type Names = Vec<Vec<u8>>;
 
@@ -86,7 +90,6 @@ fn first_again(names: &[Vec<u8>]) -> Option<usize> {
 /// Reads the names, each with a null: they differ, or this one comes again.
 fn check(names: &Names, again: Option<usize>, case: &str) {
     let named = Named::nulls(names);
-    assert!(named.message.len() <= MAX_MESSAGE, "{case}: too long");
     assert_eq!(first_again(names), again, "{case}: the case itself");
     let expected = reference::read(&HOUSE, &named.message);
     match (&expected, again) {
@@ -135,7 +138,6 @@ fn compare_read(message: &[u8], expected: &Result<View, Refused>, case: &str) {
 /// this number leads to a name.
 fn check_identifiers(body: &[u8], identifiers: &Names, leading: Option<usize>, case: &str) {
     let message = dotted::with_identifiers(body.to_vec(), identifiers);
-    assert!(message.len() <= MAX_MESSAGE, "{case}: too long");
     let expected = reference::read(&HOUSE, &message);
     match (&expected, leading) {
         (Ok(view), None) => assert_eq!(view.sequences().len(), identifiers.len(), "{case}"),
@@ -161,23 +163,28 @@ fn check_identifiers(body: &[u8], identifiers: &Names, leading: Option<usize>, c
 /// The four calls that write, on the same message and body.
 fn compare_others(named: &Named, identifier: &[u8], case: &str) {
     let message = &named.message;
-    let room = MAX_MESSAGE;
+    // Appending adds most.
+    let room = message.len() + identifier.len() + 100;
     compare_written(
+        room,
         reference::forward(&HOUSE, message, room),
         |output, view| ffi::forward(HOUSE.bits, 1, message, output, view),
         &format!("{case}: forward"),
     );
     compare_written(
+        room,
         reference::write(&HOUSE, 7, 0, 1, &named.body, room),
         |output, view| ffi::write(HOUSE.bits, 1, 7, 0, 1, &named.body, output, view),
         &format!("{case}: write"),
     );
     compare_written(
+        room,
         reference::append(&HOUSE, message, identifier, &EMPTY, room),
         |output, view| ffi::append(HOUSE.bits, 1, message, identifier, &EMPTY, output, view),
         &format!("{case}: append"),
     );
     compare_written(
+        room,
         reference::move_body(&HOUSE, message, 0, room),
         |output, view| ffi::move_body(HOUSE.bits, 1, message, 0, output, view),
         &format!("{case}: move"),
@@ -185,15 +192,16 @@ fn compare_others(named: &Named, identifier: &[u8], case: &str) {
 }
 
 fn compare_written(
+    room: usize,
     expected: Result<reference::Written, Refused>,
     call: impl Fn(&mut [u8], &mut [i64]) -> u64,
     case: &str,
 ) {
-    let mut output = vec![BYTE; MAX_MESSAGE];
+    let mut output = vec![BYTE; room];
     let mut view = [NUMBER; VIEW_NUMBERS];
     let result = call(&mut output, &mut view);
     assert_eq!(parts(result), parts(result_of(&expected)), "{case}");
-    let mut shown = vec![BYTE; MAX_MESSAGE];
+    let mut shown = vec![BYTE; room];
     let mut numbers = [NUMBER; VIEW_NUMBERS];
     if let Ok((view, message)) = expected {
         shown[..message.len()].copy_from_slice(&message);
@@ -230,7 +238,7 @@ fn two_equal_names_at_a_distance() {
     for family in Family::ALL {
         let case = family.words();
         for (count, distances) in [(300, &[1, 2, 63, 64, 65][..]), (1_100, &[1_000])] {
-            let count = count.min(family.most());
+            let count = count.min(family.fitting(FAR));
             let names = family.names(count);
             check(&names, None, case);
             let last = count - 1;
@@ -263,12 +271,34 @@ fn two_equal_names_around_a_block() {
     }
 }
 
-/// The last of as many names as fit is the first again, or for some families
-/// the one before it.
+/// The same in larger blocks, since there are more names.
 #[test]
-fn two_equal_names_among_the_most() {
+fn two_equal_names_around_a_large_block() {
+    for family in [Family::OneSlot, Family::Falling, Family::Full] {
+        let case = family.words();
+        for count in [32_767, 32_768, 32_769] {
+            let names = family.names(count);
+            check(&names, None, case);
+            check_pair(&names, 0, count - 1, case);
+            check_pair(&names, 16_383, 16_384, case);
+        }
+        let names = family.names(33_000);
+        check(&names, None, case);
+        let borders = [0, 2_048, 16_383, 16_384, 32_767, 32_768, 32_999];
+        for (index, &later) in borders.iter().enumerate() {
+            for &earlier in &borders[..index] {
+                check_pair(&names, earlier, later, case);
+            }
+        }
+    }
+}
+
+/// The last of as many names as a long message has is the first again, or for
+/// some families the one before it.
+#[test]
+fn two_equal_names_among_many() {
     for family in Family::ALL {
-        let names = family.names(family.most());
+        let names = family.names(family.fitting(LONG).min(4_000));
         let last = names.len() - 1;
         check_pair(&names, 0, last, family.words());
         if let Family::Usual | Family::Falling | Family::Full = family {
@@ -277,22 +307,34 @@ fn two_equal_names_among_the_most() {
     }
 }
 
-/// Every element that a message may have is a name at the top.
+/// Numbers for names, up to just over 4,096 of them, and some more than the
+/// library's slots hold.
 #[test]
-fn the_most_names_of_a_message() {
-    let mut names: Names = (0..MAX_ELEMENTS)
-        .map(|index| format!("{index}").into_bytes())
-        .collect();
-    check(&names, None, "4,096 names");
-    check_pair(&names, 0, MAX_ELEMENTS - 1, "4,096 names");
-    check_pair(&names, MAX_ELEMENTS - 2, MAX_ELEMENTS - 1, "4,096 names");
+fn two_equal_names_among_numbers() {
+    for count in [MANY - 1, MANY, MANY + 1, 8_191, 8_224, 8_225, 10_000] {
+        let names: Names = (0..count)
+            .map(|index| format!("{index}").into_bytes())
+            .collect();
+        check(&names, None, "numbers");
+        check_pair(&names, 0, count - 1, "numbers");
+        check_pair(&names, count - 2, count - 1, "numbers");
+        check_pair(&names, count / 2, count / 2 + 1, "numbers");
+    }
+}
 
-    // One more, and the count comes first.
-    names.push(b"0".to_vec());
-    let message = Named::nulls(&names).message;
-    let expected = reference::read(&HOUSE, &message);
-    assert_eq!(expected.as_ref().map_err(|refused| refused.number), Err(21));
-    compare_read(&message, &expected, "4,097 names");
+/// More names of each family than slots, those of one slot in a row of blocks.
+#[test]
+fn two_equal_names_among_more_than_slots() {
+    for family in Family::ALL {
+        let names = family.names(9_000.min(family.fitting(FAR)));
+        let last = names.len() - 1;
+        check(&names, None, family.words());
+        for (earlier, later) in [(0, last), (last - 1, last), (2_047, 6_144)] {
+            if later <= last {
+                check_pair(&names, earlier, later, family.words());
+            }
+        }
+    }
 }
 
 #[test]
@@ -512,7 +554,7 @@ fn any_names(random: &mut Random, count: usize) -> Names {
     match random.below(10) {
         0..=5 => {
             let family = random.pick(&Family::ALL);
-            let mut names = family.names(count.min(family.most()));
+            let mut names = family.names(count.min(family.fitting(LONG)));
             match random.below(3) {
                 0 => names.reverse(),
                 1 => shuffle(random, &mut names),
@@ -566,7 +608,7 @@ fn any_elements(random: &mut Random, names: &mut Names, any_type: bool) -> Vec<V
         ..Style::SMALL
     };
     let mixed = any_type && random.percent(50);
-    let mut left = MAX_MESSAGE - 200;
+    let mut left = LONG - 200;
     let mut elements = Vec::new();
     for name in names.iter() {
         let element = if mixed {

@@ -20,7 +20,7 @@ fn the_readme_gives_each_number_the_crate_s_words() {
         })
         .collect();
     let expected: Vec<String> = (1..=25)
-        .chain([27, 28])
+        .chain([27, 28, 38])
         .map(|number| {
             let refusal = Refusal::new(number, 0).expect("a refusal");
             format!("{number} {}", refusal.words())

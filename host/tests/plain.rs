@@ -6,11 +6,13 @@ mod plain;
 
 mod common;
 
+use common::bson::{document, element, padded, EMPTY};
 use common::damage::damage;
 use common::dotted::dotted_identifier;
 use common::generate::*;
+use common::message::{with_body, with_flags};
 use common::random::Random;
-use common::reference::{self, Clash, Edition, Refused, View, MAX_MESSAGE};
+use common::reference::{self, Clash, Edition, Refused, View, MAX_ELEMENTS, MAX_MESSAGE};
 use common::setting;
 use common::text::{any_text, faulty_text, Faults};
 
@@ -216,9 +218,51 @@ fn identifier_with_dots(random: &mut Random, edition: &Edition, message: &[u8]) 
 }
 
 #[test]
+fn the_plain_reader_keeps_the_limits() {
+    let edition = Edition {
+        bits: 0x0001_0003,
+        sequences: true,
+    };
+    let known = plain::Edition {
+        bits: edition.bits,
+        sequences: true,
+    };
+    let crowd = |count: usize| {
+        let nulls = element(0x0A, b"", b"").repeat(count - 1);
+        with_body(document(&element(0x03, b"n", &document(&nulls))))
+    };
+    let of_length = |length: usize| with_body(padded(&EMPTY, length - 26));
+    for (message, number) in [
+        (of_length(MAX_MESSAGE), 0),
+        (of_length(MAX_MESSAGE + 1), 2),
+        (with_flags(&of_length(MAX_MESSAGE - 4), 1), 0),
+        (crowd(MAX_ELEMENTS), 0),
+        (crowd(MAX_ELEMENTS + 1), 21),
+    ] {
+        let expected = reference::forward(&edition, &message, message.len());
+        let refused = expected.as_ref().err();
+        assert_eq!(refused.map_or(0, |refused| refused.number), number);
+        let mut output = vec![0xAA; message.len()];
+        let answer = plain::forward(known, &message, &mut output);
+        assert!(compare(answer, &expected, &output), "{number}");
+    }
+    for (flags, frame) in [(0, 21), (1, 25)] {
+        for (over, number) in [(0, 0), (1, 2)] {
+            let body = padded(&EMPTY, MAX_MESSAGE + over - frame - EMPTY.len());
+            let expected = reference::write(&edition, 1, -2, flags, &body, MAX_MESSAGE + 1);
+            let refused = expected.as_ref().err();
+            assert_eq!(refused.map_or(0, |refused| refused.number), number);
+            let mut output = vec![0xAA; MAX_MESSAGE + 1];
+            let answer = plain::write(known, 1, -2, flags, &body, &mut output);
+            assert!(compare(answer, &expected, &output), "{number}");
+        }
+    }
+}
+
+#[test]
 fn the_plain_checksum_is_the_definition_s() {
     let mut random = Random::new(3);
-    for length in (0..200).chain([4_000, MAX_MESSAGE]) {
+    for length in (0..200).chain([4_000, LONG]) {
         let bytes = random.bytes(length);
         assert_eq!(plain::crc32c(&bytes), reference::crc32c_by_bits(&bytes));
     }

@@ -85,7 +85,7 @@ fn any_message(random: &mut Random, edition: &Edition) -> Vec<u8> {
 
 /// What a relay forwards, with the view it shows.
 fn forwarded(edition: &Edition, message: &[u8]) -> (View, Vec<u8>) {
-    let mut output = vec![0xAA; MAX_LENGTH];
+    let mut output = vec![0xAA; message.len() + 100];
     let view = forward(edition, message, &mut output).expect("accepted, with room");
     output.truncate(view.length);
     (view, output)
@@ -93,7 +93,7 @@ fn forwarded(edition: &Edition, message: &[u8]) -> (View, Vec<u8>) {
 
 /// What a relay makes of a message with its body behind so many sequences.
 fn moved(edition: &Edition, message: &[u8], behind: u32) -> (View, Vec<u8>) {
-    let mut output = vec![0x55; MAX_LENGTH];
+    let mut output = vec![0x55; message.len() + 100];
     let view = move_body(edition, message, behind, &mut output).expect("accepted, with room");
     output.truncate(view.length);
     (view, output)
@@ -109,7 +109,7 @@ fn any_place(random: &mut Random, view: &View) -> u32 {
 /// The message written from the view's body, and appended to with the view's
 /// sequences in order.
 fn rebuilt(edition: &Edition, view: &View, message: &[u8]) -> (View, Vec<u8>) {
-    let mut built = vec![0xAA; MAX_LENGTH];
+    let mut built = vec![0xAA; message.len()];
     let mut last = write(
         edition,
         view.request_id,
@@ -120,7 +120,7 @@ fn rebuilt(edition: &Edition, view: &View, message: &[u8]) -> (View, Vec<u8>) {
     )
     .expect("written");
     for sequence in view.sequences() {
-        let mut longer = vec![0x55; MAX_LENGTH];
+        let mut longer = vec![0x55; message.len()];
         last = append(
             edition,
             &built[..last.length],
@@ -436,13 +436,8 @@ impl Open {
     }
 
     fn append(&self, edition: &Edition, identifier: &[u8]) -> Result<View, Refusal> {
-        append(
-            edition,
-            &self.message,
-            identifier,
-            b"",
-            &mut [0; MAX_LENGTH],
-        )
+        let mut output = vec![0; self.message.len() + 6 + identifier.len()];
+        append(edition, &self.message, identifier, b"", &mut output)
     }
 }
 
@@ -534,7 +529,7 @@ fn a_clash_stays_wherever_the_body_stands() {
                 }
                 let bytes = draft.bytes();
                 let answer = read(&edition, &bytes);
-                let forwarded = forward(&edition, &bytes, &mut [0; MAX_LENGTH]);
+                let forwarded = forward(&edition, &bytes, &mut vec![0; bytes.len()]);
                 assert_eq!(forwarded, answer);
                 (places, answer)
             })

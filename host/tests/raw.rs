@@ -126,6 +126,38 @@ fn a_null_view_is_too_short_after_the_other_refusals() {
 }
 
 #[test]
+fn a_null_listing_misses_its_first_line() {
+    let mut answer = [-1i64; 3];
+    let answer_at = answer.as_mut_ptr();
+    unsafe {
+        for numbers in 0..=3 {
+            assert_eq!(
+                relay_read_listing(null(), 0, answer_at, numbers),
+                refusal(38, 1)
+            );
+        }
+        assert_eq!(relay_read_listing(null(), 0, null_mut(), 0), refusal(38, 1));
+    }
+    assert_eq!(answer, [-1; 3]);
+}
+
+#[test]
+fn a_null_answer_is_too_short_after_the_lines() {
+    let listing = b"relay-log\t2\nend\t0\n";
+    let at = listing.as_ptr();
+    unsafe {
+        assert_eq!(
+            relay_read_listing(at, listing.len(), null_mut(), 0),
+            refusal(25, 0)
+        );
+        assert_eq!(
+            relay_read_listing(at, listing.len() - 1, null_mut(), 0),
+            refusal(38, 2)
+        );
+    }
+}
+
+#[test]
 fn a_null_identifier_is_empty_and_null_documents_are_none() {
     let mut view = [-1i64; N];
     let mut output = [0xAAu8; 64];

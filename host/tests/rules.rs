@@ -1,14 +1,16 @@
-//! The trials T1 to T14 of document 01, its limits and its marked orders, where
-//! texts and binaries of subtype 02 (change request 4) come among them, the
-//! list of sections and moved bodies (change request 5), and identifiers with
-//! dots (change request 2), run directly. The independent reader must give the
-//! same answers.
+//! The trials T1 to T14 of document 01, its levels and sequences at their
+//! limits, and its marked orders, where texts and binaries of subtype 02 (change
+//! request 4) come among them, the list of sections and moved bodies (change
+//! request 5), and identifiers with dots (change request 2), run directly. The
+//! independent reader must give the same answers. The limits of length and
+//! elements are in `limits.rs`.
 
 mod common;
 
 use common::bson::*;
+use common::generate::LONG;
 use common::message::*;
-use common::reference::{self, crc32c, crc32c_by_bits, MAX_MESSAGE};
+use common::reference::{self, crc32c, crc32c_by_bits, MAX_ELEMENTS, MAX_MESSAGE};
 use common::PING;
 use relay::{append, ffi, forward, move_body, read, write, Edition, Refusal, View};
 use relay::{Sequence, VIEW_NUMBERS};
@@ -16,8 +18,8 @@ use std::ops::Range;
 
 const HOUSE: Edition = Edition::HOUSE;
 
-/// Room for every message.
-const ROOM: usize = MAX_MESSAGE + 100;
+/// Room for every message but one.
+const ROOM: usize = LONG + 100;
 
 /// The same edition for the independent reader.
 fn as_reference(edition: &Edition) -> reference::Edition {
@@ -213,55 +215,6 @@ fn t14_a_name_twice() {
 // ------------------------------------------------------------------ limits
 
 #[test]
-fn messages_of_49_152_bytes_and_one_more() {
-    let greatest = with_body(padded(&EMPTY, MAX_MESSAGE - 26));
-    assert_eq!(greatest.len(), MAX_MESSAGE);
-    assert_eq!(
-        read_both(&HOUSE, &greatest).expect("accepted").length,
-        MAX_MESSAGE
-    );
-    let mut output = vec![0xAA; MAX_MESSAGE];
-    forward(&HOUSE, &greatest, &mut output).expect("accepted");
-    assert!(output == greatest);
-
-    let over = with_body(padded(&EMPTY, MAX_MESSAGE - 25));
-    assert_eq!(over.len(), MAX_MESSAGE + 1);
-    assert_eq!(read_both(&HOUSE, &over), Err(Refusal::LengthOutOfRange(0)));
-}
-
-#[test]
-fn write_at_the_greatest_length() {
-    for (flags, frame) in [(0, 21), (1, 25)] {
-        let body = padded(&EMPTY, MAX_MESSAGE - frame - 5);
-        let mut output = vec![0xAA; ROOM];
-        let view = write(&HOUSE, 1, 2, flags, &body, &mut output).expect("accepted");
-        assert_eq!(view.length, MAX_MESSAGE);
-        assert!(output[MAX_MESSAGE..].iter().all(|&byte| byte == 0xAA));
-
-        let body = padded(&EMPTY, MAX_MESSAGE - frame - 4);
-        let mut output = vec![0xAA; ROOM];
-        assert_eq!(
-            write(&HOUSE, 1, 2, flags, &body, &mut output),
-            Err(Refusal::LengthOutOfRange(0))
-        );
-        assert!(output.iter().all(|&byte| byte == 0xAA));
-    }
-}
-
-#[test]
-fn append_at_the_greatest_length() {
-    let mut output = vec![0xAA; ROOM];
-    let documents = padded(&EMPTY, MAX_MESSAGE - 36 - 7 - 5);
-    let view = append(&HOUSE, &PING, b"d", &documents, &mut output).expect("accepted");
-    assert_eq!(view.length, MAX_MESSAGE);
-    let documents = padded(&EMPTY, MAX_MESSAGE - 36 - 7 - 4);
-    assert_eq!(
-        append(&HOUSE, &PING, b"d", &documents, &mut output),
-        Err(Refusal::LengthOutOfRange(0))
-    );
-}
-
-#[test]
 fn levels_32_and_33() {
     for (kind, step) in [(0x03, 7), (0x04, 7), (0x0F, 16)] {
         let message = with_body(nested(kind, 32));
@@ -289,64 +242,6 @@ fn levels_32_and_33() {
             Err(Refusal::TooDeep(place))
         );
     }
-}
-
-#[test]
-fn elements_4_096_and_4_097() {
-    assert_eq!(element_count(&with_body(nulls(4_096))), 4_096);
-    let message = with_body(nulls(4_097));
-    // The names are the decimal numbers from 0 on.
-    let digits = 10 + 90 * 2 + 900 * 3 + 3_096 * 4;
-    let place = 25 + 2 * 4_096 + digits;
-    assert_eq!(
-        read_both(&HOUSE, &message),
-        Err(Refusal::TooManyElements(place))
-    );
-}
-
-#[test]
-fn elements_over_levels_and_sections() {
-    let level = |inside: usize| {
-        let inner = document(&element(0x0A, b"", b"").repeat(inside));
-        document(
-            &[
-                element(0x03, b"a", &inner),
-                element(0x0F, b"b", &code_with_scope(b"x", &inner)),
-            ]
-            .concat(),
-        )
-    };
-    // 2 + 2 * 500 elements in the body, as many in each of two documents of a
-    // sequence, and the rest in a second sequence.
-    let message = |rest: usize| {
-        Draft::new(vec![
-            Section::Sequence {
-                identifier: b"s".to_vec(),
-                documents: level(500).repeat(2),
-            },
-            Section::Body(level(500)),
-            Section::Sequence {
-                identifier: b"t".to_vec(),
-                documents: nulls(rest),
-            },
-        ])
-        .bytes()
-    };
-    assert_eq!(element_count(&message(4_096 - 3 * 1_002)), 4_096);
-    let over = message(4_097 - 3 * 1_002);
-    let last = over.len() - 1 - 6;
-    assert_eq!(over[last], 0x0A);
-    assert_eq!(
-        read_both(&HOUSE, &over),
-        Err(Refusal::TooManyElements(last))
-    );
-    // Element 4,097 is refused before its type is looked at.
-    let mut over = over;
-    over[last] = 0x77;
-    assert_eq!(
-        read_both(&HOUSE, &over),
-        Err(Refusal::TooManyElements(last))
-    );
 }
 
 #[test]
@@ -445,8 +340,8 @@ fn the_checksum_covers_the_flags_as_they_came() {
 
 #[test]
 fn a_cleared_bit_gives_the_checksum_anew_at_every_length() {
-    // An empty body makes 30 bytes; the last message has 49,152.
-    let growths = (11..2_000).chain([4_000, 20_000, MAX_MESSAGE - 31, MAX_MESSAGE - 30]);
+    // An empty body makes 30 bytes.
+    let growths = (11..2_000).chain([4_000, 20_000, LONG - 31, LONG - 30]);
     for growth in growths {
         let mut draft = Draft::new(vec![Section::Body(padded(&EMPTY, growth))]);
         draft.flags = 1 | 1 << 16 | 1 << (17 + growth % 15);
@@ -793,9 +688,9 @@ fn a_bad_name_after_other_elements() {
         let elements = [&nulls[4..nulls.len() - 1], &bad].concat();
         (place, read_elements(&elements))
     };
-    let (place, answer) = crowd(4_095);
+    let (place, answer) = crowd(MAX_ELEMENTS - 1);
     assert_eq!(answer, Err(Refusal::TextNotUtf8(place + 3)));
-    let (place, answer) = crowd(4_096);
+    let (place, answer) = crowd(MAX_ELEMENTS);
     assert_eq!(answer, Err(Refusal::TooManyElements(place)));
 }
 
@@ -1451,40 +1346,6 @@ fn moving_refuses_a_number_too_far_before_a_short_view() {
     }
 }
 
-#[test]
-fn moving_at_the_greatest_length_among_sixteen_sequences() {
-    for flags in [0, 1] {
-        let sequences: Vec<Section> = (0..16)
-            .map(|index| with_identifier(&[b'a' + index], &nulls(100)))
-            .collect();
-        let mut sections: Vec<&Section> = sequences.iter().collect();
-        let small = Section::Body(EMPTY.to_vec());
-        sections.insert(7, &small);
-        let left = MAX_MESSAGE - drafted(&sections, flags).len();
-        let body = Section::Body(padded(&EMPTY, left));
-        let at = |behind: usize| {
-            let mut sections: Vec<&Section> = sequences.iter().collect();
-            sections.insert(behind, &body);
-            drafted(&sections, flags)
-        };
-        let message = at(7);
-        assert_eq!(message.len(), MAX_MESSAGE);
-        for behind in 0..=16 {
-            let mut output = vec![0xAA; ROOM];
-            let view = move_body(&HOUSE, &message, behind, &mut output).expect("accepted");
-            let moved = at(behind as usize);
-            assert!(output[..MAX_MESSAGE] == moved);
-            assert!(output[MAX_MESSAGE..].iter().all(|&byte| byte == 0xAA));
-            assert_eq!(read_both(&HOUSE, &moved), Ok(view));
-            assert_eq!((view.behind(), view.elements), (behind, 1_601));
-        }
-        assert_eq!(
-            move_body(&HOUSE, &message, 17, &mut vec![0; ROOM]),
-            Err(Refusal::MoveTooFar(0))
-        );
-    }
-}
-
 // ----------------------------------------------------- identifiers with dots
 
 /// A document of these elements, as an element.
@@ -2067,7 +1928,10 @@ fn the_order_of_append_with_a_path() {
     let message = with_body(document(&within(b"run", &[null(b"points")])));
     let end = message.len();
     let path = b"run.points";
-    let mut output = vec![0xAA; ROOM];
+    // As many elements as there may be, where each takes two bytes.
+    let crowd = document(&element(0x0A, b"", b"").repeat(MAX_ELEMENTS - 1));
+    let room = crowd.len() + ROOM;
+    let mut output = vec![0xAA; room];
     let huge = vec![0; MAX_MESSAGE];
     let mut refusal = |edition: &Edition, id: &[u8], run: &[u8], room: usize| {
         let refusal = append(edition, &message, id, run, &mut output[..room]).unwrap_err();
@@ -2106,8 +1970,8 @@ fn the_order_of_append_with_a_path() {
         Refusal::DocumentLastByte(length + 9)
     );
     assert_eq!(
-        refusal(&HOUSE, path, &nulls(4_095), ROOM),
-        Refusal::TooManyElements(length + nulls(4_095).len() - 1 - 6)
+        refusal(&HOUSE, path, &crowd, room),
+        Refusal::TooManyElements(length + crowd.len() - 1 - 2)
     );
     assert_eq!(
         refusal(&HOUSE, path, b"", length),

@@ -10,11 +10,14 @@ use common::random::Random;
 use common::reference::{self, utf8_beginning};
 use common::text::{any_text, faulty_text, Fault};
 use common::PING;
-use relay::{ffi, Edition, MAX_LENGTH, VIEW_NUMBERS};
+use relay::{ffi, Edition, VIEW_NUMBERS};
 use std::array;
 use std::str::from_utf8;
 
 const HOUSE: Edition = Edition::HOUSE;
+
+/// Room for every message that is written here.
+const ROOM: usize = 200;
 
 /// The bytes at which rules change, and their neighbours.
 const EDGES: [u8; 37] = [
@@ -380,7 +383,7 @@ fn zeros_in_a_long_string() {
 
 #[test]
 fn written_texts() {
-    let mut output = vec![0; MAX_LENGTH];
+    let mut output = [0; ROOM];
     let mut view = [0; VIEW_NUMBERS];
     for kind in &KINDS[..10] {
         let mut probe = Probe::new(*kind, 2);
@@ -395,7 +398,7 @@ fn written_texts() {
 
 #[test]
 fn appended_texts() {
-    let mut output = vec![0; MAX_LENGTH];
+    let mut output = [0; ROOM];
     let mut view = [0; VIEW_NUMBERS];
     let mut append = |identifier: &[u8], documents: &[u8]| {
         ffi::append(

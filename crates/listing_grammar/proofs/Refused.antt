@@ -19,110 +19,19 @@ use Rattle.listing_lines.specs.Fields.{newline}
 use Rattle.listing_lines.specs.Lines.{firstLine}
 use Rattle.listing.specs.Listing.{messagesOf, listed}
 use Rattle.listing_stored.specs.Version.{Version, versions}
-use Rattle.listing_fields.specs.Numbers.{untilNewline, fieldsOf, field, number, between, signedNumber}
+use Rattle.listing_fields.specs.Numbers.{untilNewline, fieldsOf, field}
 use Rattle.listing_stored.specs.Stored.{Position, start, Rule, Kind, kinds, ruleOf, versionOf, Told, readListing}
 use Rattle.listing_stored.specs.Stored as rules
 use Rattle.listing_fields.proofs.Fields.{joined, OneLine, joined-line, line-joined, until-end, fields-joined}
 use Rattle.listing_fields.proofs.Numbers.{decimal-plain, exactly-decimal}
 use Rattle.listing_stored.proofs.Judged.{judged, Cut, cut-of, empty, cut, rest, run, run-empty, run-line, run-rest}
+use Rattle.listing_stored.proofs.Short.{At, Next, judged-meets}
 use Rattle.listing_stored.proofs.Versions.{one, version-found, version-refused, answered, read-run, read-behind, answered-ended}
 use Rattle.listing_grammar.specs.Grammar.{Entries, Listing}
 use Rattle.listing_grammar.specs.Reading.{Lines, Good}
-use Rattle.wire.proofs.Meets.{Meets, good, fault, missed, other-fault, then, check, last}
+use Rattle.wire.proofs.Meets.{Meets, good, fault, missed, other-fault, then, check}
 use Rattle.listing_grammar.proofs.Entered.{endFields, plain-end, end-one-line}
 use Rattle.listing_grammar.proofs.Accepted.{is-listing, is-accepted}
-
--- ---- one line: a refusal is at its number; behind it the next line comes, and at most one message more
-
-abbrev At : (line number place : ℕ) → Type 0
-At k number place = (number ≡ 38) × (place ≡ k)
-
-record Next (p q : Position) : Type 0 where
-  line : q .line ≡ suc (p .line)
-  messages : q .messages ≤ suc (p .messages)
-
-number-meets : (k : ℕ) (f : List ℕ) → Meets (λ (_ : ℕ). Unit {0}) (At k) (number k f)
-unfolding number
-number-meets k f = check 38 k _ _ (refl, refl) λ _. check 38 k _ _ (refl, refl) λ _. good tt
-
-between-meets : (k least most : ℕ) (f : List ℕ) → Meets (λ (_ : ℕ). Unit {0}) (At k) (between k least most f)
-unfolding between
-between-meets k least most f = then _ (number-meets k f) λ _ _ _. check 38 k _ _ (refl, refl) λ _. check 38 k _ _ (refl, refl) λ _. good tt
-
-signed-meets : (k : ℕ) (f : List ℕ) → Meets (λ (_ : Unit {0}). Unit {0}) (At k) (signedNumber k f)
-unfolding signedNumber
-signed-meets k f = check 38 k _ _ (refl, refl) λ _. last 38 k _ (refl, refl)
-
-abbrev Ruled : Rule → Type 0
-Ruled rule = (v : Version) (p : Position) (fs : List (List ℕ)) → Meets (Next p) (At (p .line)) (rule v p fs)
-
-message-ruled : Ruled rules.message
-unfolding rules.message
-message-ruled v p fs =
-    let k = p .line in
-    check 38 k _ _ (refl, refl) λ _.
-    then _ (between-meets k _ _ _) λ _ _ _.
-    then _ (between-meets k _ _ _) λ _ _ _.
-    then _ (signed-meets k _) λ _ _ _.
-    then _ (signed-meets k _) λ _ _ _.
-    then _ (number-meets k _) λ _ _ _.
-    then _ (between-meets k _ _ _) λ _ _ _.
-    then _ (between-meets k _ _ _) λ _ _ _.
-    good (record { line = refl; messages = omega arith })
-
-big-ruled : Ruled rules.big
-unfolding rules.big
-big-ruled v p fs =
-    let k = p .line in
-    check 38 k _ _ (refl, refl) λ _.
-    check 38 k _ _ (refl, refl) λ _.
-    then _ (between-meets k _ _ _) λ _ _ _.
-    then _ (between-meets k _ _ _) λ _ _ _.
-    good (record { line = refl; messages = omega arith })
-
-bad-ruled : Ruled rules.bad
-unfolding rules.bad
-bad-ruled v p fs =
-    let k = p .line in
-    check 38 k _ _ (refl, refl) λ _.
-    then _ (between-meets k _ _ _) λ _ _ _.
-    then _ (number-meets k _) λ _ _ _.
-    then _ (number-meets k _) λ _ _ _.
-    good (record { line = refl; messages = omega arith })
-
-end-ruled : Ruled rules.end
-unfolding rules.end
-end-ruled v p fs =
-    let k = p .line in
-    check 38 k _ _ (refl, refl) λ _.
-    then _ (between-meets k _ _ _) λ _ _ _.
-    good (record { line = refl; messages = omega arith })
-
-abbrev AllRuled : List Kind → Type 0
-AllRuled [] = Unit {0}
-AllRuled (kind ∷ ks) = Ruled (kind .rule) × AllRuled ks
-
-rule-meets : (ks : List Kind) (k : ℕ) (w : List ℕ) → AllRuled ks → Meets Ruled (At k) (ruleOf ks k w)
-unfolding ruleOf
-rule-meets [] k w a = fault (refl, refl)
-rule-meets (kind ∷ ks) k w a = go (sameText w (kind .word)) (rule-meets ks k w (a .1))
-  where
-    go : (b : Bool) → Meets Ruled (At k) (ruleOf ks k w) → Meets Ruled (At k) (elim b [ true ↦ ok (kind .rule) | false ↦ ruleOf ks k w ])
-    go true ih = good (a .0)
-    go false ih = ih
-
-kinds-ruled : AllRuled kinds
-unfolding kinds
-kinds-ruled = (message-ruled, (big-ruled, (bad-ruled, (end-ruled, tt))))
-
-judged-meets : (v : Version) (p : Position) (l : List ℕ) → Meets (Next p) (At (p .line)) (judged v p l)
-unfolding judged
-judged-meets v p l =
-    let k = p .line in
-    check 38 k _ _ (refl, refl) λ _.
-    check 38 k _ _ (refl, refl) λ _.
-    then _ (rule-meets kinds k (field 0 (fieldsOf l)) kinds-ruled) λ rule _ r.
-    r v p (fieldsOf l)
 
 -- ---- the lines from a position on, and the answer at their end
 
@@ -196,12 +105,12 @@ first-line n r = rw (line-joined (Words.relay-log ∷ decimal n ∷ [])) (append
 -- ---- a refusal goes by the lines up to it
 
 -- after one line
-one-refused : (o : Outcome Position) (f g : Position → Outcome Told) (p : Position) (number place : ℕ) → Meets (Next p) (At (p .line)) o
+one-refused : (l : List ℕ) (o : Outcome Position) (f g : Position → Outcome Told) (p : Position) (number place : ℕ) → Meets (Next p l) (At (p .line)) o
     → ((q : Position) → q .line ≡ suc (p .line) → f q ≡ refused number place → g q ≡ refused number place)
     → (o >>= f) ≡ refused number place → (o >>= g) ≡ refused number place
 unfolding _>>=_
-one-refused o f g p number place (good {a = q} n) k h = k q (n .line) h
-one-refused o f g p number place (fault q) k h = h
+one-refused l o f g p number place (good {a = q} n) k h = k q (n .line) h
+one-refused l o f g p number place (fault q) k h = h
 
 front-refused : (v : Version) {k : ℕ} {ls : List ℕ} (a b : List ℕ) (p : Position) (number place : ℕ) → Lines k ls → place < p .line + k
     → full v (ls ++ a) p ≡ refused number place → full v (ls ++ b) p ≡ refused number place
@@ -210,7 +119,7 @@ front-refused v a b p number place (Lines.more {k} {xs} {ys} n r) l h =
     let one = one-line-of xs n in
     let x : full v (xs ++ newline ∷ ys ++ a) p ≡ (judged v p xs >>= full v (ys ++ a)) = rw (append-assoc xs (newline ∷ ys) a) (full-line v xs (ys ++ a) p one) in
     let y : full v (xs ++ newline ∷ ys ++ b) p ≡ (judged v p xs >>= full v (ys ++ b)) = rw (append-assoc xs (newline ∷ ys) b) (full-line v xs (ys ++ b) p one) in
-    y ∙ one-refused (judged v p xs) (full v (ys ++ a)) (full v (ys ++ b)) p number place (judged-meets v p xs)
+    y ∙ one-refused xs (judged v p xs) (full v (ys ++ a)) (full v (ys ++ b)) p number place (judged-meets v p xs)
     (λ q e i. front-refused v a b q number place r (omega arith) i) (sym x ∙ h)
 
 -- lines that an accepted listing begins with, and what stands behind the first
@@ -316,7 +225,7 @@ good-turn v most ih xs (cut l ys one) p place n u h = go (judged v p l) refl (ju
     size : length (l ++ newline ∷ ys) ≡ length l + suc (length ys)
     size = length-append l (newline ∷ ys)
 
-    go : (o : Outcome Position) → judged v p l ≡ o → Meets (Next p) (At (p .line)) o → (o >>= full v ys) ≡ refused 38 place → Going v p (l ++ newline ∷ ys) place
+    go : (o : Outcome Position) → judged v p l ≡ o → Meets (Next p l) (At (p .line)) o → (o >>= full v ys) ≡ refused 38 place → Going v p (l ++ newline ∷ ys) place
     go o e (good {a = q} m) h = one-going v p q l ys place one e (m .line) (ih ys q place (omega (arith, size)) (omega (arith, size, m .messages)) (unfold _>>=_ in h))
     go o e (fault {number} {place = i} f) h = none-going v p (l ++ newline ∷ ys) place (omega arith) (same ∙ f .1)
       where

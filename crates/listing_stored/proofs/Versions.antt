@@ -132,7 +132,7 @@ module _ (s : List ℕ) where
   read-none e = halt _ e
 
   module _ (v : Version) (e : versionOf versions s ≡ ok v) where
-    first-length : length (firstLine (v .number)) ≡ 12
+    pub first-length : length (firstLine (v .number)) ≡ 12
     unfolding firstLine line decimal digits
     first-length = either v (version-found s versions v e .0) (λ d. rw d) (λ d. rw d)
 

@@ -137,7 +137,7 @@ fn entry(v: Limits, p: Place, l: &[u8]) -> Line
 }
 
 // Reads a line l without its newline: nothing follows `end`, and only `end` follows `bad`.
-pub(crate) fn line(v: Limits, p: Place, l: &[u8]) -> Line
+pub fn line(v: Limits, p: Place, l: &[u8]) -> Line
     requires { ⌜ (p .line + 1 < 2 ^ 64) × (p .messages + 1 < 2 ^ 64) ⌝ }
     ensures { λ r. ⌜ judged (limited v) (positionOf p) (now (l .entry)) ≡ lined (p .line) r ⌝ }
     ensures { λ r. ⌜ Follows p r ⌝ }

@@ -2,23 +2,18 @@
 -- Assumes nothing.
 use Prim.Native.Nat.{ℕ, _+_, _-_, _≤_}
 use mathlib.Core.Bool.{Bool, true, false}
-use mathlib.Core.Path.{_≡_, refl, sym, ap, _∙_}
-use mathlib.Core.List.{List, [], _∷_, _++_, append-nil}
+use mathlib.Core.Path.{_≡_, refl, sym, _∙_}
+use mathlib.Core.List.{List, [], _∷_}
 use native.Mathlib.Omega.{arith}
-use lib.ListN.{length, take, drop, length-drop}
-use lib.Seq.{take-add, length-take-le}
+use lib.ListN.{take, drop}
 use lib.Dec.{eqb}
 use borrow.Author.Tests.{eqb-true}
 use Rattle.wire.proofs.Parts.{next-part}
-use Rattle.listing.specs.Next.{bufferLength}
-use Rattle.listing.specs.Run.{Turned, Input, supplied, onward}
+use Rattle.listing_input.proofs.Held.{read-behind}
+use Rattle.listing.specs.Run.{Turned, supplied, onward}
 use Rattle.listing.specs.declared.Run.{Run}
-use Rattle.relay_log.specs.Inner.{held, input, Lies, Took}
+use Rattle.relay_log.specs.Inner.{held, Took}
 use Rattle.relay_log.specs.declared.Progress.{Progress}
-
--- how many bytes are at hand
-pub at-hand : (p : Progress) (buf : List ℕ) → Lies p → bufferLength ≡ length buf → length (held p buf) ≡ p .end - p .at
-at-hand p buf l e = length-take-le (p .end - p .at) (drop (p .at) buf) (simp length-drop (omega (arith, l .order, l .within)))
 
 -- what was read behind the bytes that were kept is a piece, or it is nothing and the stream has ended
 record Supply (rest new : List ℕ) (kept to : ℕ) : Type 0 where
@@ -34,9 +29,7 @@ supply rest new kept to front l = go (eqb to kept) refl
         let same = eqb-true to kept e in
         record { pieces = []; is = rw (e, same, front) }
     go false e =
-        let sum : to ≡ kept + (to - kept) = omega arith in
-        let parts : take to new ≡ rest ++ take (to - kept) (drop kept new) = ap (λ (n : ℕ). take n new) sum ∙ take-add kept (to - kept) new ∙ rw front in
-        record { pieces = take (to - kept) (drop kept new) ∷ []; is = rw (e, parts) }
+        record { pieces = take (to - kept) (drop kept new) ∷ []; is = rw (e, read-behind rest new kept to front l) }
 
 module _ (t : Turned) (p : Progress) (old : List ℕ) (used : ℕ) (run : Run) (done : Bool) (u : used ≡ t .used) (r : run ≡ t .run) where
   -- a turn that asks for no more

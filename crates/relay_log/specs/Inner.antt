@@ -1,10 +1,9 @@
 -- What holds between two turns of the listing's program, and what a turn of it does.
 -- Assumes nothing: these are definitions.
-use Prim.Native.Nat.{ℕ, _+_, _-_, _*_, _^_, _≤_}
-use mathlib.Core.Bool.{Bool}
+use Prim.Native.Nat.{ℕ, _+_, _*_, _^_, _≤_}
 use mathlib.Core.Path.{_≡_}
 use mathlib.Core.List.{List, []}
-use lib.ListN.{take, drop}
+use Rattle.listing_input.specs.Held.{between, Lie}
 use Rattle.listing.specs.Next.{bufferLength}
 use Rattle.listing.specs.Run.{Turned, Input, onward}
 use Rattle.listing.specs.Inner.{Near}
@@ -17,16 +16,15 @@ turns = 2 ^ 47
 
 -- the bytes at hand
 abbrev pub held : Progress → List ℕ → List ℕ
-held p buf = take (p .end - p .at) (drop (p .at) buf)
+held p buf = between (p .at) (p .end) buf
 
 -- what a run has before it, where the pieces are still to come
 abbrev pub input : Progress → (buf : List ℕ) → (pieces : List (List ℕ)) → Input
 input p buf pieces = record { held = held p buf; pieces = pieces; ended = p .ended }
 
 -- they lie in the buffer
-pub record Lies (p : Progress) : Type 0 where
-  pub order : p .at ≤ p .end
-  pub within : p .end ≤ bufferLength
+abbrev pub Lies : Progress → Type 0
+Lies p = Lie (p .at) (p .end) bufferLength
 
 pub record Held (p : Progress) : Type 0 where
   pub lies : Lies p

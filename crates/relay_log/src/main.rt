@@ -6,9 +6,9 @@ use listing::Run;
 use listing::Turn;
 use listing::turns::start;
 use listing::turns::turn;
+use listing_input::fill;
 ghost use mathlib.Core.Path.{_≡_};
-ghost use Prim.Native.Nat.{_-_, _<_, _≤_};
-ghost use lib.ListN.{length, take, drop};
+ghost use lib.ListN.{length};
 ghost use Rattle.listing_lines.specs.Lines.{version, firstLine, endLine};
 ghost use Rattle.listing.specs.Next.{bufferLength};
 ghost use Rattle.listing.specs.Run.{turn};
@@ -70,23 +70,6 @@ fn show(run: Run, s: &[u8], ended: bool) -> Shown
     let n = t.line;
     let printed = print_turn(&line[..n], run, s, ended);
     Shown { turn: t, printed }
-}
-
-// Moves the bytes at hand to the front and reads on behind them, where there is room, so that no byte read means the end; answers where
-// what was read ends. A read that fails counts as the end of the input, and standard error says so.
-fn fill(fd: i32, buf: &mut [u8], at: usize, end: usize) -> usize
-    requires { ⌜ (at ≤ end) × (end ≤ length (now buf)) × (end - at < length (now buf)) ⌝ }
-    ensures front { λ _. ⌜ take (end - at) (now (buf .exit)) ≡ take (end - at) (drop at (now (buf .entry))) ⌝ }
-    ensures inside { λ r. ⌜ (end - at ≤ r) × (r ≤ length (now (buf .entry))) ⌝ }
-{
-    relay::to_front(buf, at, end);
-    let kept = end - at;
-    let room = &mut buf[kept..];
-    let got = libc::read(fd, room);
-    if got < 0 {
-        os::fail(b"relay_log: read");
-    }
-    kept + io::count(got, room)
 }
 
 // Takes a turn, prints its line, and reads on where it asks for more.

@@ -55,13 +55,19 @@ int main(void)
     field("length", offsetof(struct relay_entry, length));
     field("documents", offsetof(struct relay_entry, documents));
     printf("kinds %d %d %d\n", RELAY_BODY, RELAY_SEQUENCE, RELAY_NONE);
+    printf("listing_numbers %d\n", (int)(sizeof(struct relay_listing) / sizeof(int64_t)));
+    field("version", offsetof(struct relay_listing, version));
+    field("messages", offsetof(struct relay_listing, messages));
     for (count = 0; count <= RELAY_MAX_SEQUENCES; count++)
         for (behind = 0; behind <= count; behind++)
             sections(behind, count);
-    for (uint64_t number = 1; number <= 29; number++) {
-        uint64_t result = number << 32 | 49151;
+    for (uint64_t number = 1; number <= 40; number++) {
+        uint64_t result = number << 32 | 47999999;
         printf("%d at %lu: %s\n", (int)relay_number(result),
                (unsigned long)relay_place(result), relay_words(relay_number(result)));
     }
+    /* Lines, the last one of more than 32 bits. */
+    printf("line %lu\n", (unsigned long)relay_line(((uint64_t)38 << 32) + 1));
+    printf("line %lu\n", (unsigned long)relay_line(((uint64_t)39 << 32) + 5));
     return 0;
 }

@@ -31,13 +31,28 @@ fn truncate(random: &mut Random, bytes: &mut Vec<u8>) {
     bytes.truncate(keep);
 }
 
+/// Lengths at the limits, and some under and over them.
+const WRONG_LENGTHS: [u32; 11] = [
+    0,
+    15,
+    16,
+    19,
+    20,
+    23,
+    24,
+    48_000_000,
+    48_000_001,
+    u32::MAX,
+    1 << 31,
+];
+
 fn wrong_length(random: &mut Random, bytes: &mut [u8]) {
     if bytes.len() < 4 {
         return;
     }
     let right = bytes.len() as u32;
     let wrong = match random.below(3) {
-        0 => random.pick(&[0, 15, 16, 19, 20, 23, 24, 49_152, 49_153, u32::MAX, 1 << 31]),
+        0 => random.pick(&WRONG_LENGTHS),
         1 => random.below(bytes.len() + 8) as u32,
         _ => right.wrapping_add(random.below(9) as u32).wrapping_sub(4),
     };

@@ -3,10 +3,10 @@
 //! wrong ones.
 
 use super::bson::{document, element, holder, nested};
-use super::generate::{any_element, Style};
+use super::generate::{any_element, Style, LONG};
 use super::message::{Draft, Section};
 use super::random::Random;
-use super::reference::{self, leads_to_a_name, Edition, Element, MAX_MESSAGE, MAX_SEQUENCES};
+use super::reference::{self, leads_to_a_name, Edition, Element, MAX_SEQUENCES};
 use super::text::any_text;
 
 // ------------------------------------------------------------------- bodies
@@ -396,8 +396,8 @@ impl Told {
 
 // ------------------------------------------------------------ dear messages
 
-/// About 1 KB, twice that and so on, and the greatest length.
-pub const LENGTHS: [usize; 7] = [1_024, 2_048, 4_096, 8_192, 16_384, 32_768, MAX_MESSAGE];
+/// About 1 KB, twice that and so on, and 48 KB.
+pub const LENGTHS: [usize; 7] = [1_024, 2_048, 4_096, 8_192, 16_384, 32_768, LONG];
 
 /// As many identifiers as there may be, of which none leads to a name of
 /// [`points`], although each is followed through all of it; with other

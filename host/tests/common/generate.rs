@@ -4,8 +4,14 @@ use super::bson::*;
 use super::dotted::{dotted_identifier, nested_document};
 use super::message::*;
 use super::random::Random;
-use super::reference::{self, elements_of, Edition, MAX_MESSAGE};
+use super::reference::{self, elements_of, Edition, MAX_ELEMENTS};
 use super::text::{any_string_text, any_text, faulty_text};
+
+/// The length that long random messages come near to, and the number of
+/// elements. These are far below the limits, which would take too long for many
+/// cases: messages of the greatest length have tests of their own.
+pub const LONG: usize = 49_152;
+pub const MANY: usize = 4_096;
 
 /// How a document is made.
 #[derive(Clone, Copy)]
@@ -380,7 +386,10 @@ pub fn any_draft(random: &mut Random, edition: &Edition) -> Draft {
         sections: Vec::new(),
     };
     match random.below(40) {
-        0 => draft.sections = crowded_sections(random),
+        0 => {
+            let total = random.pick(&[MANY - 1, MANY, MANY + 1, MANY + 2, 4_200, 5_000]);
+            draft.sections = crowded_sections(random, total);
+        }
         1..=2 => draft.sections = deep_sections(random),
         _ => draft.sections = any_sections(random, edition, style),
     }
@@ -388,6 +397,29 @@ pub fn any_draft(random: &mut Random, edition: &Edition) -> Draft {
         grow(random, &mut draft);
     }
     draft
+}
+
+/// A message with about as many elements as there may be, or a few too many.
+pub fn overcrowded_draft(random: &mut Random, edition: &Edition) -> Draft {
+    let total = any_overcrowd(random);
+    Draft {
+        request_id: random.i32(),
+        response_to: random.i32(),
+        flags: any_flags(random, edition),
+        sections: crowded_sections(random, total),
+    }
+}
+
+/// About as many elements as there may be.
+pub fn any_overcrowd(random: &mut Random) -> usize {
+    random.pick(&[
+        MAX_ELEMENTS - 1,
+        MAX_ELEMENTS,
+        MAX_ELEMENTS + 1,
+        MAX_ELEMENTS + 1,
+        MAX_ELEMENTS + 2,
+        MAX_ELEMENTS + 300,
+    ])
 }
 
 pub fn any_style(random: &mut Random) -> Style {
@@ -498,9 +530,8 @@ pub fn any_documents(random: &mut Random, style: Style) -> Vec<u8> {
         .collect()
 }
 
-/// Sections with about 4,096 elements in all, spread over levels and sections.
-fn crowded_sections(random: &mut Random) -> Vec<Section> {
-    let total = random.pick(&[4_095, 4_096, 4_096, 4_097, 4_098, 4_200]);
+/// Sections with so many elements in all, spread over levels and sections.
+fn crowded_sections(random: &mut Random, total: usize) -> Vec<Section> {
     let count = random.below(4);
     let mut left = total;
     let mut sections = Vec::new();
@@ -537,16 +568,10 @@ fn deep_sections(random: &mut Random) -> Vec<Section> {
     ]
 }
 
-/// Grows the body so that the message has about the greatest length.
+/// Grows the body so that the message is long.
 fn grow(random: &mut Random, draft: &mut Draft) {
     let now = draft.bytes().len();
-    let target = random.pick(&[
-        MAX_MESSAGE - 11,
-        MAX_MESSAGE - 1,
-        MAX_MESSAGE,
-        MAX_MESSAGE,
-        MAX_MESSAGE + 1,
-    ]);
+    let target = random.pick(&[LONG - 11, LONG, LONG + 1, LONG + 1, 65_536, 65_537, 65_600]);
     if target < now + 11 {
         return;
     }

@@ -10,6 +10,7 @@ pub mod message;
 pub mod names;
 pub mod random;
 pub mod reference;
+pub mod stored;
 pub mod text;
 
 /// PING of document 01.

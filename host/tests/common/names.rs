@@ -2,11 +2,14 @@
 //! it hard to tell them apart. A reader can keep most names apart by a slot
 //! that it makes of some of their bytes: of the first and last four, for
 //! marks, or of the middle four too. Names of one slot are the dearest then.
+//!
+//! Names are told apart by two letters where there are up to 4,096 of them, else
+//! by three; the other bytes are the same, but for one in the middle of some.
 
 use super::bson::{document, element};
 use super::message::with_body;
 use super::random::Random;
-use super::reference::MAX_MESSAGE;
+use super::reference::{MAX_ELEMENTS, MAX_MESSAGE};
 use std::collections::HashSet;
 
 #[derive(Clone, Copy, Debug, PartialEq, Eq)]
@@ -27,15 +30,16 @@ pub enum Family {
     /// 48 bytes, the same but for two behind the middle, in rising order.
     LongSlot,
     /// Three names in each slot of [`home`], so that as many steps are made as
-    /// there are names, and the last ones are too many; in falling order.
+    /// there are names, and the last ones are too many; in falling order. Where
+    /// there are more names, as many as need be in each slot.
     Full,
-    /// Names that differ in the last two of 12 bytes.
+    /// Names that differ in the letters behind 10 bytes.
     Prefix,
-    /// Names that differ in the last two of 48 bytes.
+    /// Names that differ in the letters behind 46 bytes.
     LongPrefix,
-    /// Names that differ in the first two of 12 bytes.
+    /// Names that differ in the letters before 10 bytes.
     Suffix,
-    /// Names that differ in the first two of 48 bytes.
+    /// Names that differ in the letters before 46 bytes.
     LongSuffix,
     /// One letter, one to many times: all lengths differ, and each name is
     /// the start of the next.
@@ -88,30 +92,43 @@ impl Family {
         }
     }
 
-    /// How many names with a null each fit into a message, of 4,000 at most.
+    /// How many names with a null each fit into a message.
     pub fn most(self) -> usize {
-        let mut left = MAX_MESSAGE - 26;
-        for count in 0..4_000 {
-            let size = self.name_length(count) + 2;
-            if left < size {
-                return count;
-            }
-            left -= size;
-        }
-        4_000
+        self.fitting(MAX_MESSAGE)
     }
 
-    fn name_length(self, index: usize) -> usize {
+    /// How many fit into a message of this length.
+    pub fn fitting(self, length: usize) -> usize {
+        let left = length - 26;
+        if let Family::UsualLengths | Family::Lengths = self {
+            // 1 and 2 bytes, 2 and 2, and so on.
+            let size = |count: usize| count * (count + 1) / 2 + 2 * count;
+            let most = (0..).take_while(|&count| size(count) <= left).last();
+            return most.expect("none at least");
+        }
+        let most = |letters| left / (self.name_length(letters) + 2);
+        match most(2) {
+            few if few <= LETTERS.len().pow(2) => few,
+            _ => most(3).clamp(LETTERS.len().pow(2), MAX_ELEMENTS),
+        }
+    }
+
+    /// The bytes of each name, where they are told apart by so many letters.
+    fn name_length(self, letters: usize) -> usize {
         match self {
-            Family::Usual | Family::OneMark => 10,
-            Family::LongUsual | Family::LongSlot | Family::LongPrefix | Family::LongSuffix => 48,
-            Family::UsualLengths | Family::Lengths => index + 1,
-            _ => 12,
+            Family::OneMark => 10,
+            Family::Full => 12,
+            Family::Usual => 8 + letters,
+            Family::OneSlot | Family::Falling if letters == 3 => 14,
+            Family::LongUsual | Family::LongSlot | Family::LongPrefix | Family::LongSuffix => {
+                46 + letters
+            }
+            _ => 10 + letters,
         }
     }
 
     /// So many names, all different. Those of `Falling` and `Full` are not
-    /// the first ones of more.
+    /// the first ones of more, and up to 4,096 are not those of more.
     pub fn names(self, count: usize) -> Vec<Vec<u8>> {
         assert!(count <= self.most());
         match self {
@@ -122,50 +139,58 @@ impl Family {
                 names
             }
             Family::Full => full_slots(count),
-            _ => (0..count).map(|index| self.name(index)).collect(),
+            _ => {
+                let letters = if count <= LETTERS.len().pow(2) { 2 } else { 3 };
+                (0..count).map(|index| self.name(index, letters)).collect()
+            }
         }
     }
 
-    fn name(self, index: usize) -> Vec<u8> {
-        let length = self.name_length(index);
-        let two = two(index);
+    fn name(self, index: usize, letters: usize) -> Vec<u8> {
+        let own = &numbered(index, letters)[..];
         match self {
-            Family::Usual => usual(index),
-            Family::LongUsual => [&common(40)[..], &usual(index)].concat(),
-            Family::UsualLengths => two.iter().copied().cycle().take(length).collect(),
-            Family::OneSlot => [b"part", &two[..], b"number"].concat(),
-            Family::LongSlot => [&common(40)[..], &two[..], b"readings"].concat(),
-            Family::Prefix | Family::LongPrefix => [&common(length), &two[..]].concat(),
-            Family::Suffix | Family::LongSuffix => [&two[..], &common(length)].concat(),
-            Family::Lengths => vec![b'n'; length],
+            Family::Usual => usual(index, letters),
+            Family::LongUsual => [&common(38)[..], &usual(index, letters)].concat(),
+            Family::UsualLengths => own.iter().copied().cycle().take(index + 1).collect(),
+            // The middle four bytes are behind the letters.
+            Family::OneSlot if letters == 3 => [b"part", own, b"-number"].concat(),
+            Family::OneSlot => [b"part", own, b"number"].concat(),
+            Family::LongSlot => [&common(38)[..], own, b"readings"].concat(),
+            Family::Prefix => [&common(10), own].concat(),
+            Family::LongPrefix => [&common(46), own].concat(),
+            Family::Suffix => [own, &common(10)].concat(),
+            Family::LongSuffix => [own, &common(46)].concat(),
+            Family::Lengths => vec![b'n'; index + 1],
             _ => unreachable!("made together"),
         }
     }
 }
 
-fn usual(index: usize) -> Vec<u8> {
-    format!("field{:05}", index + 1).into_bytes()
+/// A usual name of 8 bytes more than these letters would have.
+fn usual(index: usize, letters: usize) -> Vec<u8> {
+    let (number, digits) = (index + 1, 3 + letters);
+    format!("field{number:0digits$}").into_bytes()
 }
 
 /// 64 letters in rising order.
 const LETTERS: &[u8; 64] = b"-0123456789ABCDEFGHIJKLMNOPQRSTUVWXYZ_abcdefghijklmnopqrstuvwxyz";
 
-/// A number under 4,096 as two letters.
-fn two(index: usize) -> [u8; 2] {
-    [LETTERS[index / 64], LETTERS[index % 64]]
-}
-
-/// What names of this length have in common, but for two bytes.
-fn common(length: usize) -> Vec<u8> {
-    b"measurement."
-        .iter()
-        .copied()
-        .cycle()
-        .take(length - 2)
+/// A number as so many letters, in rising order.
+fn numbered(index: usize, letters: usize) -> Vec<u8> {
+    let places = (0..letters as u32).rev();
+    places
+        .map(|place| LETTERS[index / LETTERS.len().pow(place) % LETTERS.len()])
         .collect()
 }
 
-/// Names of ten letters that fall into one slot, found by search.
+/// So many bytes that names have in common.
+fn common(length: usize) -> Vec<u8> {
+    let text = b"measurement.".iter().copied();
+    text.cycle().take(length).collect()
+}
+
+/// Names of ten letters that fall into one slot, found by search. The library
+/// has 2,048 slots for its marks however many names there are.
 fn of_one_mark(count: usize) -> Vec<Vec<u8>> {
     let mut random = Random::new(23);
     let mut seen = HashSet::new();
@@ -181,10 +206,12 @@ fn of_one_mark(count: usize) -> Vec<Vec<u8>> {
 }
 
 /// So many names in falling order, three for each slot, and up to three that
-/// stand behind such.
+/// stand behind such. Where there are more than that for all slots, each gets as
+/// many others as the next, or one more.
 fn full_slots(count: usize) -> Vec<Vec<u8>> {
     let name = |which, group| -> [u8; 12] {
-        let bytes = [b"part", &two(which)[..], &two(group), b"mber"].concat();
+        let (which, group) = (numbered(which, 2), numbered(group, 2));
+        let bytes = [b"part", &which[..], &group, b"mber"].concat();
         bytes.try_into().expect("12 bytes")
     };
     // Groups whose slots are three apart, so that none fills another's.
@@ -197,9 +224,12 @@ fn full_slots(count: usize) -> Vec<Vec<u8>> {
         })
         .take(count / 3 + 3)
         .collect();
-    let full = count.saturating_sub(1) / 3;
+    let (full, each) = match count.saturating_sub(1) / 3 {
+        full if full <= groups.len() => (full, 3),
+        _ => (groups.len(), count / groups.len()),
+    };
     let mut names = Vec::new();
-    for which in (1..=3).rev() {
+    for which in (1..=each).rev() {
         names.extend(
             groups[..full]
                 .iter()
@@ -226,7 +256,7 @@ fn mark(name: &[u8; 10]) -> u64 {
 
 /// A slot of 8,192, made of the length and the middle four bytes too, as the
 /// library makes it for its tables (`hash` and `home` in the crate
-/// opmsg_name_slots).
+/// opmsg_name_slots). It has no more of them for more names.
 fn home(name: &[u8; 12]) -> u64 {
     let sum = 12 + word(name, 0) + 3 * word(name, 8) + 5 * word(name, 6);
     sum * 0x9E3_779B / 0x40_0000 % 8_192

@@ -1,15 +1,15 @@
 //! An independent reader, forwarder, writer, appender and mover, written from
-//! the rules of document 01, change requests 2, 4 and 5 and RFC 3629 and from
-//! nothing else. It is plain and slow on purpose: the tests hold the library
-//! against it.
+//! the rules of document 01, change requests 2, 4, 5 and 6 and RFC 3629 and
+//! from nothing else. It is plain and slow on purpose: the tests hold the
+//! library against it.
 
 use std::collections::HashSet;
 use std::ops::Range;
 
-pub const MAX_MESSAGE: usize = 49_152;
+pub const MAX_MESSAGE: usize = 48_000_000;
 pub const MAX_SEQUENCES: usize = 16;
 pub const MAX_LEVEL: usize = 32;
-pub const MAX_ELEMENTS: usize = 4_096;
+pub const MAX_ELEMENTS: usize = 262_144;
 pub const MAX_SECTIONS: usize = 17;
 pub const VIEW_NUMBERS: usize = 107;
 

@@ -22,20 +22,20 @@ abbrev μ-loop : tie.MeasureT-loop
 μ-loop v s p₀ at₀ p at = length s - at
 
 found : (c : tie.After-until Inv-loop μ-loop) → let p3 = c .before .before .before in
-    c .until .result ≡ untilByte newline (drop (p3 .loop .at) (p3 .before .before .args .s .now))
+    c .until .result ≡ untilByte newline (drop (p3 .loop .at) (p3 .before .before .before .args .s .now))
 found c = rw rest-part at (c .until .ensures)
 
 add-end : tie.Need-add-end Inv-loop μ-loop
 add-end c =
     let p3 = c .before .before .before in
-    let s = p3 .before .before .args .s .now in
+    let s = p3 .before .before .before .args .s .now in
     omega (arith, found c, until-le newline (drop (p3 .loop .at) s), length-drop (p3 .loop .at) s)
 
 returns : tie.Need-returns Inv-loop μ-loop
 returns c =
     let p1 = c .before in
     let p4 = p1 .before .before .before in
-    let args = p4 .before .before .args in (
+    let args = p4 .before .before .before .args in (
       sym (p4 .loop .inv .3 ∙ unended (limited (args .v)) (args .s .now) (p4 .loop .at) (positionOf (p4 .loop .p)) (p1 .until .result) (found p1) (omega arith) (omega arith)),
       (refl, omega arith),
     )
@@ -45,7 +45,7 @@ returns-2 c =
     let p2 = c .before .before in
     let p5 = p2 .before .before .before in
     let p8 = p5 .before .before .before in
-    let args = p8 .before .before .args in (
+    let args = p8 .before .before .before .args in (
       sym (p8 .loop .inv .3 ∙ turn-wrong (limited (args .v)) (args .s .now) (p8 .loop .at) (positionOf (p8 .loop .p)) (p5 .until .result) (found p5) (omega arith)
           (p2 .line .ensures .0 ∙ ap (lined (p8 .loop .p .line)) (c .enum-told .given .1))),
       (refl, omega arith),
@@ -57,7 +57,7 @@ loop-again c =
     let p3 = p1 .before .before in
     let p6 = p3 .before .before .before in
     let p9 = p6 .before .before .before in
-    let args = p9 .before .before .args in
+    let args = p9 .before .before .before .args in
     let follows : Follows (p9 .loop .p) (p3 .line .result) = p3 .line .ensures .1 in
     let next = rw (p1 .next .given .1) at follows in (
       omega arith,
@@ -70,7 +70,7 @@ loop-again c =
 returns-3 : tie.Need-returns-3 Inv-loop μ-loop
 returns-3 c =
     let p2 = c .before .before in
-    let args = p2 .before .before .args in (
+    let args = p2 .before .before .before .args in (
       c .answer .ensures .0 ∙ sym (p2 .loop .inv .3 ∙ at-end (limited (args .v)) (args .s .now) (p2 .loop .at) (positionOf (p2 .loop .p)) (omega arith)),
       c .answer .ensures .1 (length (args .s .now)) (omega arith) (omega arith),
     )
@@ -81,7 +81,8 @@ lines-spec =
     (tie.spec
     Inv-loop
     μ-loop
-    (λ c. (omega arith, omega arith, omega arith, refl))
+    (λ c κs. search needs)
+    (λ c. (omega arith, omega (arith, c .start .ensures .1), omega (arith, c .start .ensures .1), rw (c .start .ensures .0)))
     (λ c. omega arith)
     (λ c. omega arith)
     (λ c. omega arith)

@@ -7,12 +7,12 @@ use mathlib.Core.List.{List}
 use native.Mathlib.Omega.{arith}
 use lib.ListN.{length}
 use borrow.Author.Needs.{needs}
+use Rattle.listing_input.proofs.Held.{at-hand}
 use Rattle.listing.specs.Next.{bufferLength}
 use Rattle.listing.specs.Run.{turn}
 use Rattle.listing.proofs.Taken.{turn-forth}
 use Rattle.relay_log.specs.Inner.{held, Lies, Held, Took, Going}
 use Rattle.relay_log.specs.declared.Progress.{Progress}
-use Rattle.relay_log.proofs.Steps.{at-hand}
 use Rattle.relay_log.proofs.list.Statement.{statement}
 use Rattle.relay_log.proofs.list.Tie as tie
 
@@ -36,7 +36,7 @@ goes-on : (p r : Progress) (old new : List ℕ) (left : ℕ) → Going p left �
 unfolding bufferLength
 goes-on p r old new left g l e took lies =
     let f = turn-forth (p .run) (p .ended) (held p old) (g .inside) in
-    let n = at-hand p old (g .lies) e in
+    let n = at-hand old (rw e at (g .lies)) in
     record {
       lies = lies;
       inside = rw (took .run) (f .inside);

@@ -6,11 +6,12 @@ use mathlib.Core.Bool.{true}
 use native.Mathlib.Omega.{arith}
 use lib.ListN.{length}
 use borrow.Author.Needs.{needs}
+use Rattle.listing_input.proofs.Held.{at-hand}
 use Rattle.listing.specs.Next.{bufferLength}
 use Rattle.listing.specs.Run.{turn}
 use Rattle.listing.proofs.Taken.{Forth, turn-forth}
 use Rattle.relay_log.specs.Inner.{held}
-use Rattle.relay_log.proofs.Steps.{at-hand, took-on, took-more}
+use Rattle.relay_log.proofs.Steps.{took-on, took-more}
 use Rattle.relay_log.proofs.step.Statement.{statement}
 use Rattle.relay_log.proofs.step.Tie as tie
 
@@ -23,7 +24,7 @@ goes c =
     let start = c .before .before .before .before in
     let a = start .args in
     let f = turn-forth (a .p .run) (a .p .ended) (held (a .p) (a .buf .now)) (start .pre .0 .inside) in
-    let n = at-hand (a .p) (a .buf .now) (start .pre .0 .lies) (start .pre .1) in
+    let n = at-hand (a .buf .now) (rw (start .pre .1) at (start .pre .0 .lies)) in
     let s = c .show .ensures in
     (omega (arith, f .fits, s .used), λ m. omega (arith, f .room (sym (s .more) ∙ m), s .used))
 

@@ -1,4 +1,4 @@
--- `relay_log::fill` meets its contract: the bytes at hand are moved to the front, and what is read stands behind them.
+-- `listing_input::fill` meets its contract: the bytes at hand are moved to the front, and what is read stands behind them.
 -- Assumes nothing.
 use Prim.Native.Nat.{_-_}
 use mathlib.Core.Path.{_∙_, ap}
@@ -7,8 +7,8 @@ use lib.ListN.{length, take}
 use borrow.Author.Needs.{needs}
 use borrow.Rule.Slice.PartMut.{take-put}
 use Rattle.listing_buffer.proofs.Front.{at-front}
-use Rattle.relay_log.proofs.fill.Statement.{statement}
-use Rattle.relay_log.proofs.fill.Tie as tie
+use Rattle.listing_input.proofs.fill.Statement.{statement}
+use Rattle.listing_input.proofs.fill.Tie as tie
 
 returns : tie.Need-returns
 returns c =
