@@ -89,7 +89,7 @@ fn step(fd: i32, buf: &mut [u8], p: Progress) -> Progress
         done = run.done;
     }
     if t.more {
-        let to = fill(fd, buf, from, end);
+        let to = fill(fd, buf, from, end, b"relay_log: read");
         return Progress {
             at: 0,
             end: to,

@@ -14,7 +14,7 @@ returns : tie.Need-returns
 returns c =
     let p7 = c .before .before .before .before .before .before .before in
     let p12 = p7 .before .before .before .before .before in
-    let start = p12 .before .before .before in
+    let start = p12 .before .before .before .before in
     let kept = start .args .end - start .args .at in
     let moved = p12 .to-front .last .0 in (
       take-put kept (length moved - kept) moved (p7 .read .last .1 .0) (omega arith)
@@ -33,7 +33,6 @@ fill-spec =
     (λ c. search needs)
     (λ c. search needs)
     (λ c κs. search needs)
-    (λ c. search needs)
     (λ c κs. search needs)
     (λ c κs. search needs)
     (λ c. search needs)

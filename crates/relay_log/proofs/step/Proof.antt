@@ -36,25 +36,26 @@ add-from c =
 
 fill-requires : tie.Need-fill-requires
 fill-requires c κs =
-    let p6 = c .before .before .before .before .before .before in
-    let start = p6 .before .before .before .before in
-    let g = goes p6 in
-    omega (arith, g .0, g .1 (c .before .if2 .taken), start .pre .0 .lies, start .pre .1)
+    let p2 = c .before .before in
+    let p7 = p2 .before .before .before .before .before in
+    let start = p7 .before .before .before .before in
+    let g = goes p7 in
+    omega (arith, g .0, g .1 (p2 .if2 .taken), start .pre .0 .lies, start .pre .1)
 
-sub-t19 : tie.Need-sub-t19
-sub-t19 c =
-    let p9 = c .before .before .before .before .before .before .before .before .before in
-    let start = p9 .before .before .before .before in
-    omega (arith, goes p9 .0, start .pre .0 .lies)
+sub-t22 : tie.Need-sub-t22
+sub-t22 c =
+    let p10 = c .before .before .before .before .before .before .before .before .before .before in
+    let start = p10 .before .before .before .before in
+    omega (arith, goes p10 .0, start .pre .0 .lies)
 
 returns : tie.Need-returns
 returns c =
     let p2 = c .before .before in
-    let p9 = p2 .before .before .before .before .before .before .before in
-    let start = p9 .before .before .before .before in
+    let p10 = p2 .before .before .before .before .before .before .before .before in
+    let start = p10 .before .before .before .before in
     let a = start .args in
-    let s = p9 .show .ensures in (
-      took-more _ (a .p) (a .buf .now) _ _ _ (s .used) (s .run) _ _ (sym (s .more) ∙ p2 .before .before .if2 .taken) (p2 .fill .ensures .0) (p2 .fill .ensures .1 .0),
+    let s = p10 .show .ensures in (
+      took-more _ (a .p) (a .buf .now) _ _ _ (s .used) (s .run) _ _ (sym (s .more) ∙ p2 .before .before .before .if2 .taken) (p2 .fill .ensures .0) (p2 .fill .ensures .1 .0),
       record { order = omega arith; within = omega (arith, p2 .fill .ensures .1 .1, start .pre .1) },
     )
 
@@ -77,8 +78,9 @@ step-spec =
     (λ c. search needs)
     (λ c κs. search needs)
     add-from
+    (λ c. search needs)
     fill-requires
-    sub-t19
+    sub-t22
     (λ c. search needs)
     returns
     (λ c. search needs)
