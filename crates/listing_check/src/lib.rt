@@ -19,7 +19,7 @@ ghost use Rattle.listing_fields.specs.Numbers.{untilNewline};
 ghost use Rattle.listing_stored.specs.declared.Stored.the-variants.{Refused};
 ghost use Rattle.listing_check.specs.declared.Standing.the-variants.{Start, Inside};
 ghost use Rattle.listing_check.specs.declared.Checked.the-variants.{Done};
-ghost use Rattle.listing_check.specs.Check.{counted, Tells};
+ghost use Rattle.listing_check.specs.Inner.{counted, Tells};
 
 // Where a reader stands: before the first line, or in a listing of a version behind so many lines.
 pub enum Standing {

@@ -6,7 +6,7 @@ use mathlib.Core.List.{List, _++_}
 use native.Mathlib.Omega.{arith}
 use lib.ListN.{length, take, drop, length-drop}
 use lib.Seq.{take-add, length-take-le}
-use Rattle.listing_input.specs.Held.{between, Lie}
+use Rattle.listing_input.specs.Inner.{between, Lie}
 
 pub at-hand : {at end : ℕ} (buf : List ℕ) → Lie at end (length buf) → length (between at end buf) ≡ end - at
 at-hand {at} {end} buf l = length-take-le (end - at) (drop at buf) (simp length-drop (omega (arith, l .order, l .within)))

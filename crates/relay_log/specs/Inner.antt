@@ -3,7 +3,7 @@
 use Prim.Native.Nat.{ℕ, _+_, _*_, _^_, _≤_}
 use mathlib.Core.Path.{_≡_}
 use mathlib.Core.List.{List, []}
-use Rattle.listing_input.specs.Held.{between, Lie}
+use Rattle.listing_input.specs.Inner.{between, Lie}
 use Rattle.listing.specs.Next.{bufferLength}
 use Rattle.listing.specs.Run.{Turned, Input, onward}
 use Rattle.listing.specs.Inner.{Near}

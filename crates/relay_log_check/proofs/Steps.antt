@@ -8,7 +8,7 @@ use native.Mathlib.Omega.{arith}
 use lib.ListN.{take, drop}
 use Rattle.wire.proofs.Parts.{next-part}
 use Rattle.listing_input.proofs.Held.{read-behind}
-use Rattle.listing_check.specs.Check.{tell}
+use Rattle.listing_check.specs.Inner.{tell}
 use Rattle.listing_check.specs.declared.Standing.{Standing}
 use Rattle.relay_log_check.specs.Inner.{held, Went}
 use Rattle.relay_log_check.specs.declared.Progress.{Progress}

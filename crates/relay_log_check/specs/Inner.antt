@@ -3,8 +3,8 @@
 use Prim.Native.Nat.{ℕ, _+_, _^_, _≤_, _<_}
 use mathlib.Core.Path.{_≡_}
 use mathlib.Core.List.{List, _++_}
-use Rattle.listing_input.specs.Held.{between, Lie}
-use Rattle.listing_check.specs.Check.{tell, counted}
+use Rattle.listing_input.specs.Inner.{between, Lie}
+use Rattle.listing_check.specs.Inner.{tell, counted}
 use Rattle.relay_log_check.specs.declared.Progress.{Progress}
 
 -- the length of the buffer

@@ -9,7 +9,7 @@ use listing_input::fill;
 use relay::Stored;
 ghost use mathlib.Core.Path.{_≡_};
 ghost use lib.ListN.{length};
-ghost use Rattle.listing_check.specs.Check.{Tells};
+ghost use Rattle.listing_check.specs.Inner.{Tells};
 ghost use Rattle.listing_check.specs.declared.Checked.the-variants.{Done};
 ghost use Rattle.relay_log_check.specs.Inner.{bufferLength, Held, Lies, Went, Further};
 

@@ -5,7 +5,7 @@ use mathlib.Core.List.{append-nil}
 use native.Mathlib.Omega.{arith}
 use borrow.Author.Needs.{needs}
 use Rattle.listing_stored.specs.Inner.{limited, foundVersion}
-use Rattle.listing_check.specs.Check.{tell}
+use Rattle.listing_check.specs.Inner.{tell}
 use Rattle.listing_check.proofs.Pieces.{first-on, first-none, first-short}
 use Rattle.listing_check.proofs.check_first.Statement.{statement}
 use Rattle.listing_check.proofs.check_first.Tie as tie

@@ -8,7 +8,7 @@ use borrow.Author.Needs.{needs}
 use Rattle.listing_fields.specs.Numbers.{untilNewline}
 use Rattle.listing_fields.proofs.Splitting.{until-newline}
 use Rattle.listing_stored.specs.Inner.{limited, positionOf, lined, Follows}
-use Rattle.listing_check.specs.Check.{tell}
+use Rattle.listing_check.specs.Inner.{tell}
 use Rattle.listing_check.proofs.Pieces.{line-on, line-wrong}
 use Rattle.listing_check.proofs.check_line.Statement.{statement}
 use Rattle.listing_check.proofs.check_line.Tie as tie

@@ -7,7 +7,7 @@ use borrow.Author.Tests.{not-true, not-false}
 use Rattle.wire.proofs.Outcome.{halt}
 use Rattle.listing_stored.specs.Inner.{limited, positionOf}
 use Rattle.listing_stored.proofs.Short.{long-refused}
-use Rattle.listing_check.specs.Check.{tell}
+use Rattle.listing_check.specs.Inner.{tell}
 use Rattle.listing_check.proofs.Pieces.{rest-none, rest-some}
 use Rattle.listing_check.proofs.check_rest.Statement.{statement}
 use Rattle.listing_check.proofs.check_rest.Tie as tie

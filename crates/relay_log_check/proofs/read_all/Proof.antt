@@ -6,7 +6,7 @@ use mathlib.Core.Path.{_≡_}
 use native.Mathlib.Omega.{arith}
 use lib.ListN.{length}
 use borrow.Author.Needs.{needs}
-use Rattle.listing_check.specs.Check.{counted}
+use Rattle.listing_check.specs.Inner.{counted}
 use Rattle.relay_log_check.specs.Inner.{bufferLength, Lies}
 use Rattle.relay_log_check.proofs.read_all.Statement.{statement}
 use Rattle.relay_log_check.proofs.read_all.Tie as tie
