@@ -135,20 +135,24 @@ def some_big(r, length, ping):
 
 
 def run(data, chunk=None, seed=0, program=PROGRAM):
-    """What the program writes, where data comes at once or in small parts through a pipe."""
+    """What the program writes, where data comes at once, or through a pipe: in parts of up to `chunk` bytes, or in the parts that
+    `chunk` lists, with longer pauses, and the rest.
+    """
     if chunk is None:
         return subprocess.run([program], input=data, stdout=subprocess.PIPE, timeout=120).stdout
     r = random.Random(seed)
+    listed = isinstance(chunk, list)
+    sizes = iter(chunk) if listed else iter(lambda: r.randint(1, chunk), 0)
     p = subprocess.Popen([program], stdin=subprocess.PIPE, stdout=subprocess.PIPE, bufsize=0)
 
     def feed():
         at = 0
         try:
             while at < len(data):
-                n = r.randint(1, chunk)
+                n = next(sizes, len(data))
                 os.write(p.stdin.fileno(), data[at : at + n])
                 at += n
-                time.sleep(0.0003)
+                time.sleep(0.01 if listed else 0.0003)
         except BrokenPipeError:
             pass  # it has read enough
         p.stdin.close()
@@ -161,16 +165,17 @@ def run(data, chunk=None, seed=0, program=PROGRAM):
     return out
 
 
-def run_measured(parts, program=PROGRAM):
+def run_measured(data, program=PROGRAM):
     """What the program writes, and its peak of resident memory in KB: its input stays open until that has been looked up."""
     p = subprocess.Popen([program], stdin=subprocess.PIPE, stdout=subprocess.PIPE, bufsize=0)
-    for part in parts:
-        os.write(p.stdin.fileno(), part)
-    while struct.unpack('i', fcntl.ioctl(p.stdin.fileno(), termios.FIONREAD, b'\0' * 4))[0]:
-        time.sleep(0.01)
-    time.sleep(0.1)
-    with open(f'/proc/{p.pid}/status') as status:
-        peak = next(int(line.split()[1]) for line in status if line.startswith('VmHWM'))
+    os.write(p.stdin.fileno(), data)
+    unread, peak = 1, 0
+    while unread and p.poll() is None:
+        time.sleep(0.1)
+        unread = struct.unpack('i', fcntl.ioctl(p.stdin.fileno(), termios.FIONREAD, bytes(4)))[0]
+    if p.poll() is None:
+        with open(f'/proc/{p.pid}/status') as status:
+            peak = next(int(line.split()[1]) for line in status if line.startswith('VmHWM'))
     p.stdin.close()
     out = p.stdout.read()
     p.wait()
@@ -247,8 +252,8 @@ def memory(r, ping):
     start = time.time()
     messages = [ping, sized_message(BUFFER), Big(70000), Big(LONGEST, r.randbytes(LONGEST - 16)), Big(5000000), Big(BUFFER + 1)] * 4
     data, expected = stream(messages)
-    got, peak = run_measured([data])
-    good = got == expected and peak < 4096
+    got, peak = run_measured(data)
+    good = got == expected and 0 < peak < 4096
     failed += not good
     print(f'{"ok" if good else "WRONG"}\tpeak of {peak} KB resident\t{len(data)} bytes\t{time.time() - start:.2f} s')
     read_back_as(got, 'memory')
@@ -322,6 +327,9 @@ def main():
     case('a passed message in parts', stream([ping, Big(66000), ping]), chunk=99)
     case('passed messages in parts', stream([m for pair in zip(bigs, many) for m in pair]), chunk=999)
     case('passed messages in a row in parts', stream(bigs[:5], bigs[5].data[:-1], (3, 0)), chunk=999)
+    for n in (1, 15, 16, 17, 35, 36, BUFFER - 1, BUFFER, BUFFER + 1, 69999):
+        case(f'a pause behind {n} bytes of a passed message', stream([ping, Big(70000), Big(70000), ping]), chunk=[36, n, 70000 - n, n])
+        case(f'a pause behind {n} bytes of one that is read', stream([ping, sized_message(BUFFER), ping]), chunk=[36, min(n, BUFFER)])
     arguments(ping)
     memory(r, ping)
     print(f'{read_back} listings read back')

@@ -293,6 +293,8 @@ def arguments():
     relay_log.called('more than one file', ['a', 'b'], b'', usage, program=READER)
     relay_log.called('no such file', ['/no/such/file'], b'', b'/no/such/file: No such file', program=READER)
     relay_log.called('a folder', ['/'], b'bad\t38\t1\n', b'relay_log_check: read: Is a directory', program=READER)
+    with open('/dev/full', 'wb') as full:
+        relay_log.called('output that cannot be written', [], b'', b'relay_log_check: standard output: No space left', output=full, program=READER)
 
 
 def main():
@@ -319,8 +321,8 @@ def main():
         several(f'{name}, {len(data)} bytes', [data])
         if name == '200,000 lines':
             several(f'{name} in parts', [data], chunk=65536)
-            got, peak = run_measured([data], program=READER)
-            good = got == answer(data) and peak < 4096
+            got, peak = run_measured(data, program=READER)
+            good = got == answer(data) and 0 < peak < 4096
             failed += not good
             print(f'{"ok" if good else "WRONG"}\tpeak of {peak} KB resident')
     arguments()

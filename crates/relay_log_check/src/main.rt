@@ -23,11 +23,28 @@ struct Progress {
     standing: Standing,
 }
 
-fn print_numbers(a: u64, b: u64) {
-    io::print_decimal(STDOUT_FILENO, a);
-    io::write_all(STDOUT_FILENO, b"\t");
-    io::print_decimal(STDOUT_FILENO, b);
-    io::write_all(STDOUT_FILENO, b"\n");
+// Writes two numbers with a tab between them, and a newline.
+fn print_numbers(a: u64, b: u64) -> bool {
+    if !io::print_decimal(STDOUT_FILENO, a) {
+        return false;
+    }
+    if !io::write_all(STDOUT_FILENO, b"\t") {
+        return false;
+    }
+    if !io::print_decimal(STDOUT_FILENO, b) {
+        return false;
+    }
+    io::write_all(STDOUT_FILENO, b"\n")
+}
+
+// Writes a word and two numbers; where that fails, standard error says so.
+fn print_line(word: &[u8], a: u64, b: u64) {
+    if io::write_all(STDOUT_FILENO, word) {
+        if print_numbers(a, b) {
+            return;
+        }
+    }
+    os::fail(b"relay_log_check: standard output");
 }
 
 // Prints what the listing tells, which it asks its caller for: no contract can say what was printed.
@@ -35,14 +52,8 @@ fn print_answer(r: Stored, at: Standing, s: &[u8], ended: bool)
     requires { ⌜ Tells at (now s) ended (Done r) ⌝ }
 {
     match r {
-        Stored::Listing { version, messages } => {
-            io::write_all(STDOUT_FILENO, b"listing\t");
-            print_numbers(version as u64, messages);
-        }
-        Stored::Refused { number, line } => {
-            io::write_all(STDOUT_FILENO, b"bad\t");
-            print_numbers(number as u64, line);
-        }
+        Stored::Listing { version, messages } => print_line(b"listing\t", version as u64, messages),
+        Stored::Refused { number, line } => print_line(b"bad\t", number as u64, line),
     }
 }
 
