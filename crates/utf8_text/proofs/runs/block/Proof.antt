@@ -12,14 +12,14 @@ a-byte-more c =
     let j = c.before.before.before in
     let t = j.before.before in
     let a = t.before.before.before.before in
-    and_a_tail a.args.s.now a.requires (j.before.joined.ensures (not-false _ j.if-not-joined.false)) (t.before.tail.ensures.1 t.if-tail.false) (c.before.tail-2.ensures.0 c.if-tail-2.true)
+    and_a_tail a.args.s.now a.requires (j.before.joined.ensures j.if-not-joined.false) (t.before.tail.ensures.1 t.if-tail.false) (c.before.tail-2.ensures.0 c.if-tail-2.true)
 
 no_more : tie.Need-returns
 no_more c =
     let j = c.before.before.before in
     let t = j.before.before in
     let a = t.before.before.before.before in
-    whole a.args.s.now a.requires (j.before.joined.ensures (not-false _ j.if-not-joined.false)) (t.before.tail.ensures.1 t.if-tail.false) (c.before.tail-2.ensures.1 c.if-tail-2.false)
+    whole a.args.s.now a.requires (j.before.joined.ensures j.if-not-joined.false) (t.before.tail.ensures.1 t.if-tail.false) (c.before.tail-2.ensures.1 c.if-tail-2.false)
 
 pub block_spec : {M : Type 1} → statement M
 block_spec =
