@@ -5,8 +5,8 @@ use borrow.Author.Tests.{ne_eqb}
 use Rattle.crc32c_refresh.proofs.operator.turned.Statement.{statement}
 use Rattle.crc32c_refresh.proofs.operator.turned.Tie as tie
 
-returns : tie.Need-returns
-returns c = rw c.before.if1.true c.apply.ensures
+returns : tie.Need-returns-then-n-eq1
+returns c = rw c.before.if-n-eq1.true c.apply.ensures
 
 pub turned_spec : {M : Type 1} → statement M
-turned_spec = tie.close (tie.spec (λ c κs. search rules) returns (λ c. rw (ne_eqb _ _ c.if1.false)))
+turned_spec = tie.close (tie.spec (λ c κs. search rules) returns (λ c. rw (ne_eqb _ _ c.if-n-eq1.false)))
