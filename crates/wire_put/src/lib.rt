@@ -1,4 +1,6 @@
 // Bytes and words stored at a place.
+#![tactic(auto)]
+
 ghost use Rattle.std.specs.Prelude.{◌≡◌};
 ghost use Rattle.wire.specs.Bytes.{le32, put};
 
@@ -12,7 +14,7 @@ pub fn put(out: &mut [u8], at: usize, s: &[u8])
     if out.len() - s.len() < at {
         return;
     }
-    bytes::copy(s, &mut out[at..]);
+    out[at..at + s.len()].copy_from_slice(s);
 }
 
 // Stores the four bytes of w at a place, where they fit; else nothing changes.
