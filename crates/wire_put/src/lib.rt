@@ -5,6 +5,7 @@ ghost use Rattle.std.specs.Prelude.{◌≡◌};
 ghost use Rattle.wire.specs.Bytes.{le32, put};
 
 // Stores the bytes s at a place, where they fit; else nothing changes.
+#[tactic(auto, using(wire::proofs::Parts::put_too_long))]
 pub fn put(out: &mut [u8], at: usize, s: &[u8])
     ensures { out.new ≡ put at s.now out.old }
 {

@@ -6,14 +6,8 @@ use mathlib.Core.List.{append_assoc}
 use native.Mathlib.Omega.{arith}
 use lib.ListN.{take, drop}
 use lib.Seq.{drop-drop}
-use Rattle.wire.proofs.Parts.{put_too_long, put_fits}
+use Rattle.wire.proofs.Parts.{put_fits}
 use Rattle.wire_put.proofs.put.Goals as goal
-
-pub returns-then-out-s : goal.returns-then-out-s
-returns-then-out-s c = sym (put_too_long _ _ _ (omega arith))
-
-pub returns-then-out-s-2 : goal.returns-then-out-s-2
-returns-then-out-s-2 c = sym (put_too_long _ _ _ (omega arith))
 
 pub returns : goal.returns
 returns c =
