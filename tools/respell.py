@@ -81,6 +81,7 @@ def foreign(text):
     return out
 
 
+QUOTED = re.compile(r'("(?:[^"\\\\]|\\\\.)*")')
 TOKEN = re.compile(r"(?P<dot>\.?)(?P<word>[A-Za-z+μ_][A-Za-z0-9_'′₀-₉-]*)")
 
 
@@ -98,7 +99,8 @@ def code(text, names, skip):
                 return m.group(0)
         return m.group("dot") + names[word]
 
-    return TOKEN.sub(one, text)
+    # texts between quotes stay as they are
+    return "".join(part if i % 2 else TOKEN.sub(one, part) for i, part in enumerate(QUOTED.split(text)))
 
 
 def comment(text, names):

@@ -59,7 +59,7 @@ abbrev pub ping_and_three : List ℕ
 ping_and_three = ping ++ 97 ∷ 98 ∷ 99 ∷ []
 
 abbrev pub its_lines : List ℕ
-its_lines = ascii "relay_log\t2\nmsg\t0\t36\t7\t0\t0\t0\t1\nbad\t36\t1\t0\nend\t1\n"
+its_lines = ascii "relay-log\t2\nmsg\t0\t36\t7\t0\t0\t0\t1\nbad\t36\t1\t0\nend\t1\n"
 
 abbrev pub Example : Type 0
 Example = listing ping_and_three ≡ its_lines

@@ -37,10 +37,10 @@ version_front : (s later : List ℕ) → 12 ≤ length s → version_of versions
 version_front s later h = go (same_text (take 12 s) first) refl (same_text (take 12 s) second) refl
   where
     first : List ℕ
-    first = ascii "relay_log\t1\n"
+    first = ascii "relay-log\t1\n"
 
     second : List ℕ
-    second = ascii "relay_log\t2\n"
+    second = ascii "relay-log\t2\n"
 
     same : take 12 (s ++ later) ≡ take 12 s
     same = take-append-le 12 s later h

@@ -87,15 +87,15 @@ version_of_lem v r m = either v m (λ e. rw e (first_is r)) (λ e. rw e (second_
 
 -- the version by the bytes of its line
 module _ (s : List ℕ) where
-  pub begins_1 : same_text (take 12 s) (ascii "relay_log\t1\n") ≡ true → version_of versions s ≡ ok one
+  pub begins_1 : same_text (take 12 s) (ascii "relay-log\t1\n") ≡ true → version_of versions s ≡ ok one
   unfolding version_of versions first_line line decimal digits
   begins_1 e = rw (version_of, e)
 
-  pub begins_2 : same_text (take 12 s) (ascii "relay_log\t1\n") ≡ false → same_text (take 12 s) (ascii "relay_log\t2\n") ≡ true → version_of versions s ≡ ok two
+  pub begins_2 : same_text (take 12 s) (ascii "relay-log\t1\n") ≡ false → same_text (take 12 s) (ascii "relay-log\t2\n") ≡ true → version_of versions s ≡ ok two
   unfolding version_of versions first_line line decimal digits
   begins_2 d e = rw (version_of, d, version_of, e)
 
-  pub begins_else : same_text (take 12 s) (ascii "relay_log\t1\n") ≡ false → same_text (take 12 s) (ascii "relay_log\t2\n") ≡ false → version_of versions s ≡ refused 38 1
+  pub begins_else : same_text (take 12 s) (ascii "relay-log\t1\n") ≡ false → same_text (take 12 s) (ascii "relay-log\t2\n") ≡ false → version_of versions s ≡ refused 38 1
   unfolding version_of versions first_line line decimal digits
   begins_else d e = rw (version_of, d, version_of, e)
 

@@ -11,17 +11,17 @@ use Rattle.opmsg.specs.Layout.{checksum_differs}
 use Rattle.opmsg_flag_checks.proofs.checksum_differs.Statement.{statement}
 use Rattle.opmsg_flag_checks.proofs.checksum_differs.Tie as tie
 
-returns : tie.Need-returns
+returns : tie.Need-returns-then-not-checksummed
 unfolding checksum_differs
-returns c = λ n f. rw (checksum_differs, ← f, ← c.before.checksummed.ensures, not-true c.before.checksummed.result c.if1.true)
+returns c = λ n f. rw (checksum_differs, ← f, ← c.checksummed.ensures, c.if-not-checksummed.true)
 
-returns-2 : tie.Need-returns-2
+returns-2 : tie.Need-returns
 unfolding checksum_differs word_at
 returns-2 c =
-    let p2 = c.before.before in
-    let p4 = p2.before.before in
-    let p5 = p4.before in
-    λ n f. rw (checksum_differs, ← f, ← p5.checksummed.ensures, not-false p5.checksummed.result p4.if1.false, ← n, word_at, ← rest_part _ _, ← p2.word.ensures, ← c.crc.ensures)
+    let p2 = c in
+    let p4 = c in
+    let p5 = c in
+    λ n f. rw (checksum_differs, ← f, ← p5.checksummed.ensures, p4.if-not-checksummed.false, ← n, word_at, ← rest_part _ _, ← p2.word.ensures, ← c.crc.ensures)
 
 pub checksum_differs_spec : {M : Type 1} → statement M
 checksum_differs_spec =

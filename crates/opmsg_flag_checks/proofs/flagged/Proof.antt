@@ -2,7 +2,7 @@
 -- Assumes nothing.
 use Prim.Native.Nat.{ℕ, ◌+◌, ◌-◌, ◌≤◌}
 use mathlib.Core.Bool.{not}
-use mathlib.Core.Path.{◌≡◌, refl}
+use mathlib.Core.Path.{◌≡◌, refl, ap}
 use mathlib.Core.List.{List, [], ◌∷◌}
 use native.Mathlib.Omega.{arith}
 use lib.ListN.{length, drop}
@@ -36,28 +36,28 @@ unfolding flagged word_at
 answers p = answers_alone p
 
 -- what the code reads: the length, which the slice holds, the flag word, and whether the checksum differs
-fits : (c : tie.After-word) → c.word.result ≤ length c.before.before.args.s.now
+fits : (c : tie.After-word-n) → c.word-n.result ≤ length c.args.s.now
 unfolding word_at
-fits c = omega (arith, c.word.ensures, c.before.before.requires)
+fits c = omega (arith, c.word-n.ensures, c.requires)
 
-flags : (c : tie.After-word2) → c.word2.result ≡ word (drop 16 c.before.before.before.before.before.args.s.now)
-flags c = rw rest_part at c.word2.ensures
+flags : (c : tie.After-word-flags) → c.word-flags.result ≡ word (drop 16 c.args.s.now)
+flags c = rw rest_part at c.word-flags.ensures
 
-abbrev past_1 : tie.Else1 → Past checks 1
-past_1 c = next (first c.before.before.before) (rw (← c.before.word.ensures) (le-ltb _ _ c.if1.false))
+abbrev past_1 : tie.Else-n-lt20 → Past checks 1
+past_1 c = next (first c.before.before.before) (rw (← c.word-n.ensures) (le-ltb _ _ c.if-n-lt20.false))
 
-abbrev past_2 : tie.Else2 → Past checks 2
-past_2 c = let k = c.before in next (past_1 k.before.before.before) (rw (← flags k.before, ← k.required-known.ensures) c.if2.false)
+abbrev past_2 : tie.Else-not-required_known → Past checks 2
+past_2 c = let k = c.before in next (past_1 k.before.before.before) (rw (← flags k.before, ← k.required_known.ensures) (ap not c.if-not-required_known.false))
 
-abbrev past_3 : tie.Else3 → Past checks 3
+abbrev past_3 : tie.Else-n-checksum_size → Past checks 3
 past_3 c =
     let p = c.before.before in
     let w = p.before.before in
-    next (past_2 p) (rw (← flags w, ← c.before.checksum-size.ensures, ← w.before.before.before.word.ensures) (le-ltb _ _ c.if3.false))
+    next (past_2 p) (rw (← flags w, ← c.checksum_size.ensures, ← w.word-n.ensures) (le-ltb _ _ c.if-n-checksum_size.false))
 
-differs : (c : tie.After-checksum-differs) → c.checksum-differs.result ≡ checksum_differs (past_3 c.before).given.args.s.now
+differs : (c : tie.After-checksum_differs) → c.checksum_differs.result ≡ checksum_differs (past_3 c.before).given.args.s.now
 unfolding word_at
-differs c = let w = c.before.before.before.before.before in c.checksum-differs.ensures w.before.before.before.word.ensures (flags w)
+differs c = let w = c.before.before.before.before.before in c.checksum_differs.ensures w.word-n.ensures (flags w)
 
 pub flagged_spec : {M : Type 1} → statement M
 flagged_spec =
@@ -65,26 +65,26 @@ flagged_spec =
     (tie.spec
     (λ c κs. search rules)
     (λ c κs. search rules)
-    (λ c. let w = c.before.before in rw c.refused.ensures (answers (first w.before.before) (rw (← w.word.ensures) (lt-ltb _ _ c.before.if1.true))))
+    (λ c. let w = c.before.before in rw c.refused.ensures (answers (first w.before.before) (rw (← w.word-n.ensures) (lt-ltb _ _ c.if-n-lt20.true))))
     (λ c. omega (arith, fits c.before))
     (λ c. omega (arith, fits c.before))
     (λ c. search rules)
     (λ c κs. search rules)
     (λ c κs. search rules)
     (λ c κs. search rules)
-    (λ c. let k = c.before.before in rw c.refused2.ensures (answers (past_1 k.before.before.before) (rw (← flags k.before, ← k.required-known.ensures) c.before.if2.true)))
+    (λ c. let k = c.before.before in rw c.refused-then-not-required_known.ensures (answers (past_1 k.before.before.before) (rw (← flags k.before, ← k.required_known.ensures) (ap not c.if-not-required_known.true))))
     (λ c κs. search rules)
-    (λ c. omega (arith, checksum_small c.before.before.before.word2.result, c.checksum-size.ensures))
+    (λ c. omega (arith, checksum_small c.word-flags.result, c.checksum_size.ensures))
     (λ c κs. search rules)
     (λ c.
     let z = c.before.before in
     let w = z.before.before.before in
-    rw c.refused3.ensures (answers (past_2 z.before) (rw (← flags w, ← z.checksum-size.ensures, ← w.before.before.before.word.ensures) (lt-ltb _ _ c.before.if3.true))))
+    rw c.refused-then-n-checksum_size.ensures (answers (past_2 z.before) (rw (← flags w, ← z.checksum_size.ensures, ← w.word-n.ensures) (lt-ltb _ _ c.if-n-checksum_size.true))))
     (λ c. search rules)
     (λ c κs. omega (arith, fits c.before.before.before.before.before.before.before))
     (λ c. search rules)
     (λ c κs. search rules)
     (λ c.
     let d = c.before.before in
-    rw (c.refused4.ensures, d.before.before.before.before.before.before.before.before.word.ensures) (answers (past_3 d.before) (rw (← differs d) c.before.if4.true)))
-    (λ c. answers (next (past_3 c.before.before) (rw (← differs c.before) c.if4.false)) refl))
+    rw (c.refused-then-checksum_differs.ensures, d.word-n.ensures) (answers (past_3 d.before) (rw (← differs d) c.if-checksum_differs.true)))
+    (λ c. answers (next (past_3 c.before.before) (rw (← differs c.before) c.if-checksum_differs.false)) refl))

@@ -7,33 +7,33 @@ use Rattle.opmsg_sequences.proofs.Identifier.{text_inside, broken_inside, empty,
 use Rattle.opmsg_sequences.proofs.sequence_named.Statement.{statement}
 use Rattle.opmsg_sequences.proofs.sequence_named.Tie as tie
 
-nothing-named : tie.Need-returns
+nothing-named : tie.Need-returns-then-n-eq0
 nothing-named c =
-    let n = c.before.before.before in
-    let z = n.before.before in
-    let a = z.before.before.before in
-    (λ p k. rw c.refused.ensures (sym (empty _ _ a.requires.0 a.requires.1 _ z.far-ended.ensures a.args.at p _ n.n.given.1 c.before.if1.true)), rw c.refused.ensures tt)
+    let n = c in
+    let z = c in
+    let a = c in
+    (λ p k. rw c.refused.ensures (sym (empty _ _ a.requires.0 a.requires.1 _ z.far_ended.ensures a.args.at p _ n.in-Text.is c.if-n-eq0.true)), rw c.refused.ensures tt)
 
-documents : tie.Need-returns-2
+documents : tie.Need-returns-else-n-eq0
 documents c =
-    let n = c.before.before.before in
-    let z = n.before.before in
-    let a = z.before.before.before in
-    let r = c.sequence-documents.ensures in
-    (λ p k. r.0 p k ∙ sym (text _ _ a.requires.0 a.requires.1 _ z.far-ended.ensures a.args.at p _ n.n.given.1 c.before.if1.false), r.1)
+    let n = c in
+    let z = c in
+    let a = c in
+    let r = c.sequence_documents.ensures in
+    (λ p k. r.0 p k ∙ sym (text _ _ a.requires.0 a.requires.1 _ z.far_ended.ensures a.args.at p _ n.in-Text.is c.if-n-eq0.false), r.1)
 
-without-zero : tie.Need-returns-3
+without-zero : tie.Need-returns-in-Unended
 without-zero c =
-    let z = c.before.before.before in
-    let a = z.before.before.before in
-    (λ p k. rw c.refused2.ensures (sym (unended _ _ a.requires.0 a.requires.1 _ z.far-ended.ensures a.args.at p c.before.enum_told.given.1)), rw c.refused2.ensures tt)
+    let z = c in
+    let a = c in
+    (λ p k. rw c.refused-in-Unended.ensures (sym (unended _ _ a.requires.0 a.requires.1 _ z.far_ended.ensures a.args.at p c.in-Unended.is)), rw c.refused-in-Unended.ensures tt)
 
-no_text : tie.Need-returns-4
+no_text : tie.Need-returns-in-IllFormed
 no_text c =
-    let n = c.before.before in
-    let z = n.before.before in
-    let a = z.before.before.before in
-    (λ p k. rw c.refused3.ensures (sym (ill_formed _ _ a.requires.0 a.requires.1 _ z.far-ended.ensures a.args.at p _ n.n2.given.1)), rw c.refused3.ensures tt)
+    let n = c in
+    let z = c in
+    let a = c in
+    (λ p k. rw c.refused-in-IllFormed.ensures (sym (ill_formed _ _ a.requires.0 a.requires.1 _ z.far_ended.ensures a.args.at p _ n.in-IllFormed.is)), rw c.refused-in-IllFormed.ensures tt)
 
 pub sequence_named_spec : {M : Type 1} → statement M
 sequence_named_spec =
@@ -49,19 +49,19 @@ sequence_named_spec =
     (λ c κs. search rules)
     nothing-named
     (λ c κs.
-    let n = c.before.before in
-    let z = n.before.before in
-    let a = z.before.before.before in
-    (text_inside _ a.args.xs.now a.requires.0 a.requires.1 _ z.far-ended.ensures _ n.n.given.1, a.requires.1, a.requires.2))
+    let n = c in
+    let z = c in
+    let a = c in
+    (text_inside _ a.args.xs.now a.requires.0 a.requires.1 _ z.far_ended.ensures _ n.in-Text.is, a.requires.1, a.requires.2))
     (λ c. search rules)
     (λ c. search rules)
     (λ c κs. search rules)
     (λ c. search rules)
     (λ c. search rules)
     (λ c.
-    let z = c.before.before.before in
-    let a = z.before.before.before in
-    omega (arith, broken_inside _ a.args.xs.now a.requires.0 a.requires.1 _ z.far-ended.ensures _ c.before.n2.given.1))
+    let z = c in
+    let a = c in
+    omega (arith, broken_inside _ a.args.xs.now a.requires.0 a.requires.1 _ z.far_ended.ensures _ c.in-IllFormed.is))
     (λ c κs. search rules)
     documents
     without-zero

@@ -32,27 +32,27 @@ behind : {k : ℕ} (p : Past checks k) (q : Parts) → let a = p.given.args in l
 unfolding sequence_section
 behind p q e = rw e (answers p _)
 
-size : (c : tie.After-word) → c.word.result ≡ word (drop 1 c.before.before.before.before.before.args.xs.now)
-size c = rw rest_part at c.word.ensures
+size : (c : tie.After-word-w) → c.word-w.result ≡ word (drop 1 c.args.xs.now)
+size c = rw rest_part at c.word-w.ensures
 
-abbrev past_1 : tie.Else1 → Past checks 1
-past_1 c = next (first c.before.before) (unfold max_sequences in lt-leb _ _ c.if1.false)
+abbrev past_1 : tie.Else-count-ge-MAX_SEQUENCES → Past checks 1
+past_1 c = next (first c.before.before) (unfold max_sequences in lt-leb _ _ c.if-count-ge-MAX_SEQUENCES.false)
 
-abbrev past_2 : tie.Else2 → Past checks 2
-past_2 c = next (past_1 c.before) (le-ltb _ _ c.if2.false)
+abbrev past_2 : tie.Else-xs-lt5 → Past checks 2
+past_2 c = next (past_1 c.before) (le-ltb _ _ c.if-xs-lt5.false)
 
-abbrev past_3 : tie.Else3 → Past checks 3
-past_3 c = let u = c.before in next (past_2 u.before.before.before) (rw (← size u.before, ← u.under.ensures) c.if3.false)
+abbrev past_3 : tie.Else-under → Past checks 3
+past_3 c = let u = c.before in next (past_2 u.before.before.before) (rw (← size u.before, ← u.under.ensures) c.if-under.false)
 
 pub sequence_section_spec : {M : Type 1} → statement M
 sequence_section_spec =
     tie.close
     (tie.spec
     (λ c κs. search rules)
-    (λ c. (λ p start k. rw c.refused.ensures (behind (first c.before.before.before) p k.number_is (unfold max_sequences in le-leb _ _ c.before.if1.true)), rw c.refused.ensures tt))
+    (λ c. (λ p start k. rw c.refused.ensures (behind (first c.before.before.before) p k.number_is (unfold max_sequences in le-leb _ _ c.if-count-ge-MAX_SEQUENCES.true)), rw c.refused.ensures tt))
     (λ c. search rules)
     (λ c κs. search rules)
-    (λ c. (λ p start k. rw c.refused2.ensures (behind (past_1 c.before.before) p k.number_is (lt-ltb _ _ c.before.if2.true)), rw c.refused2.ensures tt))
+    (λ c. (λ p start k. rw c.refused-then-xs-lt5.ensures (behind (past_1 c.before.before) p k.number_is (lt-ltb _ _ c.if-xs-lt5.true)), rw c.refused-then-xs-lt5.ensures tt))
     (λ c. search rules)
     (λ c. search rules)
     (λ c. search rules)
@@ -62,14 +62,14 @@ sequence_section_spec =
     (λ c κs. search rules)
     (λ c.
     let u = c.before.before in
-    (λ p start k. rw c.refused3.ensures (behind (past_2 u.before.before.before) p k.number_is (rw (← size u.before, ← u.under.ensures) c.before.if3.true)), rw c.refused3.ensures tt))
+    (λ p start k. rw c.refused-then-under.ensures (behind (past_2 u.before.before.before) p k.number_is (rw (← size u.before, ← u.under.ensures) c.if-under.true)), rw c.refused-then-under.ensures tt))
     (λ c. search rules)
     (λ c. search rules)
     (λ c. search rules)
     (λ c κs. search rules)
-    (λ c. let s = c.before.before in (λ p start k. rw c.refused4.ensures (behind (past_3 s) p k.number_is (rw (← size s.before.before) (lt-ltb _ _ c.before.if4.true))), rw c.refused4.ensures tt))
+    (λ c. let s = c.before.before in (λ p start k. rw c.refused-then-xs-size.ensures (behind (past_3 s) p k.number_is (rw (← size s.before.before) (lt-ltb _ _ c.if-xs-size.true))), rw c.refused-then-xs-size.ensures tt))
     (λ c κs. omega (arith, size c.before.before.before, under_false 5 _ (past_3 c.before).passed.1))
     (λ c.
     let s = c.before in
     let w = size s.before.before.before in
-    (λ p start k. rw (← behind (next (past_3 s.before) (rw (← w) (le-ltb _ _ s.if4.false))) p k.number_is refl, ← w) (c.sequence-named.ensures.0 p k.elements_is), c.sequence-named.ensures.1)))
+    (λ p start k. rw (← behind (next (past_3 s.before) (rw (← w) (le-ltb _ _ s.if-xs-size.false))) p k.number_is refl, ← w) (c.sequence_named.ensures.0 p k.elements_is), c.sequence_named.ensures.1)))

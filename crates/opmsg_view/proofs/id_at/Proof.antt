@@ -12,8 +12,8 @@ use Rattle.opmsg_view.proofs.id_at.Tie as tie
 returns : tie.Need-returns
 unfolding word_at
 returns c =
-    let start = c.before.before.before.before in
-    to_z-of_z {w = w32} (record { sfits = c.signed.type-inv }) ∙ c.signed.ensures ∙ ap signed (c.before.word.ensures ∙ ap word (rest_part start.args.at start.args.s.now))
+    let start = c in
+    to_z-of_z {w = w32} (record { sfits = c.signed.type_inv }) ∙ c.signed.ensures ∙ ap signed (c.word.ensures ∙ ap word (rest_part start.args.at start.args.s.now))
 
 pub id_at_spec : {M : Type 1} → statement M
 id_at_spec =

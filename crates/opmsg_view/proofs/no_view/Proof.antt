@@ -7,4 +7,4 @@ use Rattle.opmsg_view.proofs.no_view.Tie as tie
 
 pub no_view_spec : {M : Type 1} → statement M
 unfolding no_view
-no_view_spec = tie.close (tie.spec (λ c κs. search rules) (λ c. rw c.no-entries.ensures))
+no_view_spec = tie.close (tie.spec (λ c κs. search rules) (λ c. rw c.no_entries-entries.ensures))

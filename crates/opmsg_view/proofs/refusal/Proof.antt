@@ -7,4 +7,4 @@ use Rattle.opmsg_view.proofs.refusal.Tie as tie
 
 pub refusal_spec : {M : Type 1} → statement M
 unfolding answer
-refusal_spec = tie.close (tie.spec (λ c κs. search rules) (λ c. rw c.no-view.ensures))
+refusal_spec = tie.close (tie.spec (λ c κs. search rules) (λ c. rw c.no_view-view.ensures))

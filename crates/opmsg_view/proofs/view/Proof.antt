@@ -14,17 +14,17 @@ use Rattle.opmsg_view.proofs.view.Tie as tie
 returns : tie.Need-returns
 unfolding word_at
 returns c =
-    let flags = c.before in
-    let response = flags.before.before.before in
-    let request = response.before in
-    let first = request.before in
-    let start = first.before.before in
+    let flags = c in
+    let response = c in
+    let request = c in
+    let first = c in
+    let start = c in
     λ p entries counted.
     view_is start.args.e start.args.s.now p _
-    first.word.ensures
-    (to_z-of_z {w = w32} (record { sfits = request.id-at.type-inv }) ∙ request.id-at.ensures)
-    (to_z-of_z {w = w32} (record { sfits = response.id-at2.type-inv }) ∙ response.id-at2.ensures)
-    (flags.kept.ensures ∙ ap (kept start.args.e.bits) (flags.before.word2.ensures ∙ ap word (rest_part 16 start.args.s.now)))
+    first.word-length.ensures
+    (to_z-of_z {w = w32} (record { sfits = request.id_at-request_id.type_inv }) ∙ request.id_at-request_id.ensures)
+    (to_z-of_z {w = w32} (record { sfits = response.id_at-response_to.type_inv }) ∙ response.id_at-response_to.ensures)
+    (flags.kept-flags.ensures ∙ ap (kept start.args.e.bits) (flags.word.ensures ∙ ap word (rest_part 16 start.args.s.now)))
     entries
     counted
 
