@@ -11,7 +11,7 @@ use Rattle.opmsg_element_names.proofs.against.Tie as tie
 returns : tie.Need-returns
 unfolding name_text
 returns c =
-    let a = c.before.before.before.before.args in
+    let a = c.args in
     rw (drop-drop 1 a.place a.xs.now) (rw (rest_part (a.place + 1) a.xs.now) at c.compare.ensures)
 
 pub against_spec : {M : Type 1} → statement M

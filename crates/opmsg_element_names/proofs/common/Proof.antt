@@ -13,10 +13,10 @@ use Rattle.wire.proofs.Parts.{rest_part}
 use Rattle.opmsg_element_names.proofs.common.Statement.{statement}
 use Rattle.opmsg_element_names.proofs.common.Tie as tie
 
-abbrev invariant-loop : tie.invariant-loop
+abbrev invariant-loop : tie.invariant-loop-i
 invariant-loop a b i₀ i = (i ≤ length a) × (i ≤ length b) × (take i a ≡ take i b)
 
-abbrev decreases-loop : tie.decreases-loop
+abbrev decreases-loop : tie.decreases-loop-i
 decreases-loop a b i₀ i = length a - i
 
 -- four bytes more
@@ -31,18 +31,18 @@ told : (i : ℕ) (a b : List ℕ) → (i ≤ length a) × (i ≤ length b) × (t
     → ((i ≤ length a) × (i ≤ length b)) × ((k : ℕ) → k < i → get_or a k 0 ≡ get_or b k 0)
 told i a b s = ((s.0, s.1), λ k h. sym (get_or-take i a k 0 h) ∙ ap (λ (l : List ℕ). get_or l k 0) s.2 ∙ get_or-take i b k 0 h)
 
-loop-again : tie.Need-loop-preserved invariant-loop decreases-loop
+loop-again : tie.Need-loop-i-preserved invariant-loop decreases-loop
 loop-again c =
-    let w = c.before in
-    let n = w.before.before in
-    let t = n.before.before.before in
-    let l = t.before in
-    let s = l.before.before.before in
+    let w = c in
+    let n = c in
+    let t = c in
+    let l = c in
+    let s = c in
     let a = s.args.a.now in
     let b = s.args.b.now in
-    let i = l.loop.i in
-    let e : word (drop i a) ≡ word (drop i b) = rw (rest_part i a, rest_part i b) at (sym n.word.ensures ∙ c.if2.false ∙ w.word2.ensures) in
-    (omega arith, omega arith, four i a b (λ j. omega (arith, l.before.before.shared-slice-known.given j)) (λ j. omega (arith, l.before.shared-slice-known2.given j)) t.loop-test.true (omega arith) l.loop.invariant.2 e)
+    let i = l.loop-i.i in
+    let e : word (drop i a) ≡ word (drop i b) = rw (rest_part i a, rest_part i b) at (sym n.word.ensures ∙ c.if-word.false ∙ w.word-in-loop-i.ensures) in
+    (omega arith, omega arith, four i a b (λ j. omega (arith, l.shared_slice_known-1.given j)) (λ j. omega (arith, l.shared_slice_known-2-1.given j)) t.loop-i-test.true (omega arith) l.loop-i.invariant.2 e)
 
 pub common_spec : {M : Type 1} → statement M
 common_spec =
@@ -53,7 +53,7 @@ common_spec =
     (λ c. (omega arith, omega arith, refl))
     (λ c. omega arith)
     (λ c. omega arith)
-    (λ c. told _ _ _ c.before.before.loop.invariant)
+    (λ c. told _ _ _ c.loop-i.invariant)
     (λ c. omega arith)
     (λ c. omega arith)
     (λ c. omega arith)
@@ -62,8 +62,8 @@ common_spec =
     (λ c. omega arith)
     (λ c. omega arith)
     (λ c κs. search rules)
-    (λ c. told _ _ _ c.before.before.before.before.before.before.before.loop.invariant)
+    (λ c. told _ _ _ c.loop-i.invariant)
     (λ c. omega arith)
     (λ c. omega arith)
     loop-again
-    (λ c. told _ _ _ c.before.loop.invariant))
+    (λ c. told _ _ _ c.loop-i.invariant))

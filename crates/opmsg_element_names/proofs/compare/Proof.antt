@@ -8,56 +8,56 @@ use Rattle.opmsg_element_names.proofs.Ordering.{Agreed, agreed_first, agreed_bef
 use Rattle.opmsg_element_names.proofs.compare.Statement.{statement}
 use Rattle.opmsg_element_names.proofs.compare.Tie as tie
 
-abbrev invariant-loop : tie.invariant-loop
+abbrev invariant-loop : tie.invariant-loop-i
 invariant-loop text bytes i₀ i = Agreed text bytes i
 
-abbrev decreases-loop : tie.decreases-loop
+abbrev decreases-loop : tie.decreases-loop-i
 decreases-loop text bytes i₀ i = length text - i
 
-loop-holds : tie.Need-loop-init invariant-loop decreases-loop
+loop-holds : tie.Need-loop-i-init invariant-loop decreases-loop
 loop-holds c =
-    let r = c.common.ensures in
-    agreed_first _ _ c.before.before.before.requires _ r.0.0 r.0.1 r.1
+    let r = c.common-i.ensures in
+    agreed_first _ _ c.requires _ r.0.0 r.0.1 r.1
 
-returns : tie.Need-returns invariant-loop decreases-loop
+returns : tie.Need-returns-then-bytes-i invariant-loop decreases-loop
 returns c =
-    let l = c.before.before in
-    agreed_longer _ _ l.before.before.before.before.requires l.loop.i l.loop.invariant c.if1.true c.before.loop-test.true
+    let l = c in
+    agreed_longer _ _ l.requires l.loop-i.i l.loop-i.invariant c.if-bytes-i.true c.loop-i-test.true
 
-returns-2 : tie.Need-returns-2 invariant-loop decreases-loop
+returns-2 : tie.Need-returns-then-text-i invariant-loop decreases-loop
 returns-2 c =
-    let l = c.before.before.before.before.before in
-    agreed_before _ _ l.before.before.before.before.requires l.loop.i l.loop.invariant c.if2.true
+    let l = c in
+    agreed_before _ _ l.requires l.loop-i.i l.loop-i.invariant c.if-text-i.true
 
-returns-3 : tie.Need-returns-3 invariant-loop decreases-loop
+returns-3 : tie.Need-returns-then-bytes-i-2 invariant-loop decreases-loop
 returns-3 c =
-    let l = c.before.before.before.before.before.before.before.before in
-    agreed_after _ _ l.before.before.before.before.requires l.loop.i l.loop.invariant c.if3.true
+    let l = c in
+    agreed_after _ _ l.requires l.loop-i.i l.loop-i.invariant c.if-bytes-i-2.true
 
-loop-again : tie.Need-loop-preserved invariant-loop decreases-loop
+loop-again : tie.Need-loop-i-preserved invariant-loop decreases-loop
 loop-again c =
-    let t = c.before.before.before.before.before.before.before in
-    let l = t.before in
-    agreed_more _ _ l.before.before.before.before.requires l.loop.i l.loop.invariant (omega arith) t.loop-test.true (omega arith)
+    let t = c in
+    let l = c in
+    agreed_more _ _ l.requires l.loop-i.i l.loop-i.invariant (omega arith) t.loop-i-test.true (omega arith)
 
-returns-4 : tie.Need-returns-4 invariant-loop decreases-loop
+returns-4 : tie.Need-returns-then-bytes-i-3 invariant-loop decreases-loop
 returns-4 c =
-    let l = c.before.before in
-    let end = get_or-eq_default l.before.before.before.before.args.bytes.now 0 {n = l.loop.i} c.if4.true in
-    agreed_all _ _ l.before.before.before.before.requires l.loop.i l.loop.invariant c.before.loop-test.false end
+    let l = c in
+    let end = get_or-eq_default l.args.bytes.now 0 {n = l.loop-i.i} c.if-bytes-i-3.true in
+    agreed_all _ _ l.requires l.loop-i.i l.loop-i.invariant c.loop-i-test.false end
 
-returns-5 : tie.Need-returns-5 invariant-loop decreases-loop
+returns-5 : tie.Need-returns-then-bytes-i-gt0 invariant-loop decreases-loop
 returns-5 c =
-    let t = c.before.before.before in
-    let l = t.before in
-    let end = get_or-eq_default l.before.before.before.before.args.text.now 0 {n = l.loop.i} t.loop-test.false in
-    agreed_before _ _ l.before.before.before.before.requires l.loop.i l.loop.invariant (omega (arith, end, c.if5.true))
+    let t = c in
+    let l = c in
+    let end = get_or-eq_default l.args.text.now 0 {n = l.loop-i.i} t.loop-i-test.false in
+    agreed_before _ _ l.requires l.loop-i.i l.loop-i.invariant (omega (arith, end, c.if-bytes-i-gt0.true))
 
-returns-6 : tie.Need-returns-6 invariant-loop decreases-loop
+returns-6 : tie.Need-returns invariant-loop decreases-loop
 returns-6 c =
-    let t = c.before.before.before in
-    let l = t.before in
-    agreed_all _ _ l.before.before.before.before.requires l.loop.i l.loop.invariant t.loop-test.false (omega (arith, c.if5.false))
+    let t = c in
+    let l = c in
+    agreed_all _ _ l.requires l.loop-i.i l.loop-i.invariant t.loop-i-test.false (omega (arith, c.if-bytes-i-gt0.false))
 
 pub compare_spec : {M : Type 1} → statement M
 compare_spec =

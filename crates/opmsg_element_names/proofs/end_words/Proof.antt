@@ -10,19 +10,19 @@ use Rattle.opmsg_element_names.specs.Inner.{last_word}
 use Rattle.opmsg_element_names.proofs.end_words.Statement.{statement}
 use Rattle.opmsg_element_names.proofs.end_words.Tie as tie
 
-returns : tie.Need-returns
+returns : tie.Need-returns-then-text-lt4
 unfolding last_word
 returns c =
-    let text = c.before.before.before.args.text.now in
+    let text = c.args.text.now in
     let start : length text - 4 ≡ 0 = omega arith in
-    (c.word.ensures, rw (last_word, start) c.word.ensures)
+    (c.word-all.ensures, rw (last_word, start) c.word-all.ensures)
 
-returns-2 : tie.Need-returns-2
+returns-2 : tie.Need-returns
 unfolding last_word
 returns-2 c =
-    let first = c.before.before in
-    let text = first.before.before.before.args.text.now in
-    (first.word2.ensures, rw (last_word, ← rest_part (length text - 4) text) c.word3.ensures)
+    let first = c in
+    let text = first.args.text.now in
+    (first.word.ensures, rw (last_word, ← rest_part (length text - 4) text) c.word-2.ensures)
 
 pub end_words_spec : {M : Type 1} → statement M
 end_words_spec =

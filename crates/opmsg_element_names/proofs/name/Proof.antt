@@ -10,14 +10,14 @@ use Rattle.wire.proofs.Parts.{rest_part}
 use Rattle.opmsg_element_names.proofs.name.Statement.{statement}
 use Rattle.opmsg_element_names.proofs.name.Tie as tie
 
-slice-aggregate-result : tie.Need-slice-aggregate-result
-slice-aggregate-result c = sym (length-take-le _ _ (rw c.before.until-zero.ensures (until_le _)))
+slice-aggregate-result : tie.Need-slice_bounds-result-end
+slice-aggregate-result c = sym (length-take-le _ _ (rw c.until_zero-n.ensures (until_le _)))
 
 returns : tie.Need-returns
 unfolding name_text
 returns c =
-    let a = c.before.before.before.before.args in
-    rw (name_text, c.before.until-zero.ensures, drop-drop 1 a.place a.xs.now, rest_part (a.place + 1) a.xs.now)
+    let a = c.args in
+    rw (name_text, c.until_zero-n.ensures, drop-drop 1 a.place a.xs.now, rest_part (a.place + 1) a.xs.now)
 
 pub name_spec : {M : Type 1} → statement M
 name_spec =

@@ -20,16 +20,16 @@ within c =
     let xs = c.args.xs.now in
     (omega (arith, c.requires.0.0, c.requires.0.1, length-drop p xs), omega (arith, c.requires.0.0, c.requires.0.1, length-drop p xs))
 
-end_is : (c : tie.After-element-size) →
-    let s = c.before.before.before in
-    s.args.place + c.element-size.result ≡ s.args.place + element_size (drop s.args.place s.args.xs.now)
+end_is : (c : tie.After-element_size) →
+    let s = c in
+    s.args.place + c.element_size.result ≡ s.args.place + element_size (drop s.args.place s.args.xs.now)
 end_is c =
-    let s = c.before.before.before in
-    rw (c.element-size.ensures, rest_part s.args.place s.args.xs.now)
+    let s = c in
+    rw (c.element_size.ensures, rest_part s.args.place s.args.xs.now)
 
-element-size-requires : tie.Need-element-size-requires
+element-size-requires : tie.Need-element_size-requires
 element-size-requires c κs =
-    let s = c.before.before in
+    let s = c in
     rw (rest_part s.args.place s.args.xs.now) (s.requires.1 ∙ name_length_lem _, s.requires.0.0, s.requires.0.1)
 
 returns : tie.Need-returns
