@@ -13,92 +13,74 @@ use Rattle.opmsg_name_blocks.proofs.Blocks.{Filling, filling_none, filling_all, 
 use Rattle.opmsg_name_blocks.proofs.block.Statement.{statement}
 use Rattle.opmsg_name_blocks.proofs.block.Tie as tie
 
-abbrev invariant-loop : tie.invariant-loop
+abbrev invariant-loop : tie.invariant-loop-i
 invariant-loop xs table₀ s bound m₀ i₀ resume₀ table m i resume = Filling (length table₀) xs s bound table m i resume
 
-abbrev decreases-loop : tie.decreases-loop
+abbrev decreases-loop : tie.decreases-loop-i
 decreases-loop xs table₀ s bound m₀ i₀ resume₀ table m i resume = bound - i
 
 -- the turn in which a text was looked up
-abbrev T : tie.After-find invariant-loop decreases-loop → tie.In-loop invariant-loop decreases-loop
-T c = c.before.before.before
+abbrev T : tie.After-find-found invariant-loop decreases-loop → tie.In-loop-i invariant-loop decreases-loop
+T c = c.before.before
 
-abbrev X : tie.At-loop invariant-loop decreases-loop → List ℕ
-X l = l.before.before.before.args.xs.now
+abbrev X : tie.At-loop-i invariant-loop decreases-loop → List ℕ
+X l = l.args.xs.now
 
 -- the place is one of xs
-inside : (t : tie.In-loop invariant-loop decreases-loop) → t.before.loop.i < length (X t.before)
-inside t = omega (arith, t.before.loop.invariant.opened.within)
+inside : (t : tie.In-loop-i invariant-loop decreases-loop) → t.loop-i.i < length (X t.before)
+inside t = omega (arith, t.loop-i.invariant.opened.within)
 
-read : (t : tie.In-loop invariant-loop decreases-loop) → Read (X t.before) t.before.loop.i
-read t = filling_read _ _ _ _ _ _ _ _ t.before.before.before.before.requires.0 t.before.loop.invariant t.loop-test.true
+read : (t : tie.In-loop-i invariant-loop decreases-loop) → Read (X t.before) t.loop-i.i
+read t = filling_read _ _ _ _ _ _ _ _ t.requires.0 t.loop-i.invariant t.loop-i-test.true
 
-between : (c : tie.After-found invariant-loop decreases-loop) →
-    let l = (T c.before.before).before in
-    Between (X l) l.loop.table l.loop.m (text_at (X l) l.loop.i) c.found.given.0.0
+between : (c : tie.In-Insert invariant-loop decreases-loop) →
+    Between (X c.before.before.before.before) c.loop-i.table c.loop-i.m (text_at (X c.before.before.before.before) c.loop-i.i) c.in-Insert.k
 between c =
-    let f = c.before.before in
-    rw f.before.before.name.ensures at (rw c.found.given.1 at f.find.ensures)
+    rw c.name-text.ensures at (rw c.in-Insert.is at c.find-found.ensures)
 
-loop-holds : tie.Need-loop-init invariant-loop decreases-loop
-loop-holds c = let p = c.before.before.requires in filling_none _ _ _ _ p.1 p.2 p.4
+loop-holds : tie.Need-loop-i-init invariant-loop decreases-loop
+loop-holds c = let p = c.requires in filling_none _ _ _ _ p.1 p.2 p.4
 
-find-requires : tie.Need-find-requires invariant-loop decreases-loop
+find-requires : tie.Need-find-found-requires invariant-loop decreases-loop
 find-requires c κs =
-    let n = c.before in
-    let l = n.before.before in
-    (l.loop.invariant.sorted, l.before.before.before.requires.3, rw n.name.ensures (name_without_zero _))
+    (c.loop-i.invariant.sorted, c.requires.3, rw c.name-text.ensures (name_without_zero _))
 
-same_length : tie.Need-same-length invariant-loop decreases-loop
-same_length c = (T c.before.before).before.loop.inv.size_is
+same_length : tie.Need-shape_of-table-in_default invariant-loop decreases-loop
+same_length c = c.loop-i.invariant.size_is
 
-returns : tie.Need-returns invariant-loop decreases-loop
-returns c =
-    let f = c.before.before in
-    let t = T f in
-    let l = t.before in (
-      l.loop.inv.size_is,
-      filling_seen _ _ _ _ _ _ _ _ l.before.before.before.pre.0 l.loop.inv t.loop-test.taken (rw f.before.before.name.ensures at (rw c.enum_told.given.1 at f.find.ensures)),
-    )
+returns : tie.Need-returns-in_default invariant-loop decreases-loop
+returns c = (
+  c.loop-i.invariant.size_is,
+  filling_seen _ _ _ _ _ _ _ _ c.requires.0 c.loop-i.invariant c.loop-i-test.true (rw c.name-text.ensures at (rw c.in_default.is at c.find-found.ensures)),
+)
 
-next-requires : tie.Need-next-requires invariant-loop decreases-loop
+next-requires : tie.Need-next-after-requires invariant-loop decreases-loop
 next-requires c κs =
-    let n = c.before.before.before.before.before in
-    (read n.before, ap length n.name.ensures)
+    (read c.before.before.before, ap length c.name-text.ensures)
 
-cast-insert : tie.Need-overflow-cast-insert invariant-loop decreases-loop
+cast-insert : tie.Need-overflow_cast-i invariant-loop decreases-loop
 cast-insert c =
-    let t = T c.before.before.before.before.before.before in
-    omega (arith, inside t, t.before.before.before.before.pre.3)
+    omega (arith, inside c.before.before.before.before.before.before, c.requires.3)
 
 insert-requires : tie.Need-insert-requires invariant-loop decreases-loop
-insert-requires c κs = ((between c.before.before.before.before).within, c.before.if1.true)
+insert-requires c κs = ((between c.before.before.before).within, c.if-m-table.true)
 
-loop-again : tie.Need-loop-preserved invariant-loop decreases-loop
+loop-again : tie.Need-loop-i-preserved-then-m-table invariant-loop decreases-loop
 loop-again c =
-    let n = c.before.before in
-    let e = n.before.before.before in
-    let d = e.before.before in
-    let t = T d.before.before in
-    let l = t.before in
-    filling_more _ _ _ _ _ _ _ _ l.before.before.before.pre.0 l.loop.inv t.loop-test.taken _ (between d) _ e.next.ensures.0
-    (omega (arith, n.before.before.if1.true, l.loop.inv.size_is)) _ n.insert.ensures.0 n.insert.ensures.1
+    filling_more _ _ _ _ _ _ _ _ c.requires.0 c.loop-i.invariant c.loop-i-test.true _ (between c.before.before.before.before.before.before) _ c.next-after.ensures.0
+    (omega (arith, c.if-m-table.true, c.loop-i.invariant.size_is)) _ c.insert.ensures.0 c.insert.ensures.1
 
-loop-again-2 : tie.Need-loop-preserved-2 invariant-loop decreases-loop
+loop-again-2 : tie.Need-loop-i-preserved invariant-loop decreases-loop
 loop-again-2 c =
-    let e = c.before in
-    let d = e.before.before in
-    let t = T d.before.before in
-    let l = t.before in
-    filling_full _ _ _ _ _ _ _ _ l.before.before.before.pre.0 l.loop.inv t.loop-test.taken _ (between d) _ e.next.ensures.0 (omega (arith, c.if1.false, l.loop.inv.size_is))
+    filling_full _ _ _ _ _ _ _ _ c.requires.0 c.loop-i.invariant c.loop-i-test.true _ (between c.before.before) _ c.next-after.ensures.0 (omega (arith, c.if-m-table.false, c.loop-i.invariant.size_is))
 
-same-length-2 : tie.Need-same-length-2 invariant-loop decreases-loop
-same-length-2 c = c.before.loop.invariant.size_is
+same-length-2 : tie.Need-shape_of-table invariant-loop decreases-loop
+same-length-2 c = c.loop-i.invariant.size_is
 
-returns-2 : tie.Need-returns-2 invariant-loop decreases-loop
+returns-2 : tie.Need-returns invariant-loop decreases-loop
 returns-2 c =
-    let p = c.before.before.before.before.requires in
-    (c.before.loop.invariant.size_is, filling_all _ _ _ _ _ _ _ _ p.0 c.before.loop.invariant p.2 c.loop-test.false)
+    let p = c.requires in
+    (c.loop-i.invariant.size_is, filling_all _ _ _ _ _ _ _ _ p.0 c.loop-i.invariant p.2 c.loop-i-test.false)
 
 pub block_spec : {M : Type 1} → statement M
 block_spec =
@@ -116,10 +98,10 @@ block_spec =
     next-requires
     cast-insert
     insert-requires
-    (λ c. omega (arith, c.before.before.before.before.if1.true))
-    (λ c. omega (arith, c.before.before.before.before.before.next.ensures.1))
+    (λ c. omega (arith, c.if-m-table.true))
+    (λ c. omega (arith, c.next-after.ensures.1))
     loop-again
-    (λ c. omega (arith, c.before.next.ensures.1))
+    (λ c. omega (arith, c.next-after.ensures.1))
     loop-again-2
     same-length-2
     returns-2)

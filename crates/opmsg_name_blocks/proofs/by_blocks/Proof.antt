@@ -9,34 +9,32 @@ use Rattle.opmsg_name_blocks.proofs.Blocks.{cleared_none, cleared_all}
 use Rattle.opmsg_name_blocks.proofs.by_blocks.Statement.{statement}
 use Rattle.opmsg_name_blocks.proofs.by_blocks.Tie as tie
 
-abbrev invariant-loop : tie.invariant-loop
+abbrev invariant-loop : tie.invariant-loop-s
 invariant-loop xs table₀ s₀ bound₀ table s bound = Cleared xs s bound × (length table ≡ length table₀)
 
-abbrev decreases-loop : tie.decreases-loop
+abbrev decreases-loop : tie.decreases-loop-s
 decreases-loop xs table₀ s₀ bound₀ table s bound = bound - s
 
-loop-holds : tie.Need-loop-init invariant-loop decreases-loop
+loop-holds : tie.Need-loop-s-init invariant-loop decreases-loop
 loop-holds c = (cleared_none _, omega arith)
 
-block-requires : tie.Need-block-requires invariant-loop decreases-loop
+block-requires : tie.Need-block-b-requires invariant-loop decreases-loop
 block-requires c κs =
-    let l = c.before.before in
-    let p = l.before.before.before.requires in
-    (p.0, l.loop.invariant.0, c.before.loop-test.true, p.1, omega (arith, p.2, l.loop.invariant.1))
+    let p = c.requires in
+    (p.0, c.loop-s.invariant.0, c.loop-s-test.true, p.1, omega (arith, p.2, c.loop-s.invariant.1))
 
-loop-less : tie.Need-loop-smaller invariant-loop decreases-loop
-loop-less c = c.before.before.block.ensures.1.1
+loop-less : tie.Need-loop-s-smaller invariant-loop decreases-loop
+loop-less c = c.block-b.ensures.1.1
 
-loop-again : tie.Need-loop-preserved invariant-loop decreases-loop
+loop-again : tie.Need-loop-s-preserved invariant-loop decreases-loop
 loop-again c =
-    let b = c.before.before in
-    (b.block.ensures.1.0, b.block.ensures.0 ∙ b.before.before.before.loop.invariant.1)
+    (c.block-b.ensures.1.0, c.block-b.ensures.0 ∙ c.loop-s.invariant.1)
 
-same_length : tie.Need-same-length invariant-loop decreases-loop
-same_length c = c.before.loop.invariant.1
+same_length : tie.Need-shape_of-table invariant-loop decreases-loop
+same_length c = c.loop-s.invariant.1
 
 returns : tie.Need-returns invariant-loop decreases-loop
-returns c = cleared_all _ _ _ c.before.loop.invariant.0 c.loop-test.false
+returns c = cleared_all _ _ _ c.loop-s.invariant.0 c.loop-s-test.false
 
 pub by_blocks_spec : {M : Type 1} → statement M
 by_blocks_spec =

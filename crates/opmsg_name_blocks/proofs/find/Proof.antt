@@ -7,68 +7,63 @@ use Rattle.opmsg_name_blocks.proofs.Table.{Narrowed, narrowed_none, narrowed_lef
 use Rattle.opmsg_name_blocks.proofs.find.Statement.{statement}
 use Rattle.opmsg_name_blocks.proofs.find.Tie as tie
 
-abbrev invariant-loop : tie.invariant-loop
+abbrev invariant-loop : tie.invariant-loop-low
 invariant-loop xs table m text low₀ high₀ low high = Narrowed xs table m text low high
 
-abbrev decreases-loop : tie.decreases-loop
+abbrev decreases-loop : tie.decreases-loop-low
 decreases-loop xs table m text low₀ high₀ low high = high - low
 
-abbrev middle : tie.In-loop invariant-loop decreases-loop → ℕ
-middle c = c.before.loop.low + (c.before.loop.high - c.before.loop.low) / 2
+abbrev middle : tie.In-loop-low invariant-loop decreases-loop → ℕ
+middle c = c.loop-low.low + (c.loop-low.high - c.loop-low.low) / 2
 
-loop-holds : tie.Need-loop-init invariant-loop decreases-loop
+loop-holds : tie.Need-loop-low-init invariant-loop decreases-loop
 loop-holds c = narrowed_none _ _ _ _
 
-sub-middle : tie.Need-overflow-sub-middle invariant-loop decreases-loop
+sub-middle : tie.Need-overflow_sub-middle invariant-loop decreases-loop
 sub-middle c = omega arith
 
-add-middle : tie.Need-overflow-add-middle invariant-loop decreases-loop
+add-middle : tie.Need-overflow_add-middle invariant-loop decreases-loop
 add-middle c = omega arith
 
-mul-place : tie.Need-overflow-mul-place invariant-loop decreases-loop
+mul-place : tie.Need-offset_bounds-table-middle invariant-loop decreases-loop
 mul-place c = omega arith
 
-shared-slice-read-place : tie.Need-shared-slice-read-place invariant-loop decreases-loop
-shared-slice-read-place c = omega (arith, c.before.before.before.before.before.before.requires.0.few)
+shared-slice-read-place : tie.Need-bounds-table-middle invariant-loop decreases-loop
+shared-slice-read-place c = omega (arith, c.requires.0.few)
 
-cast-place : tie.Need-overflow-cast-place invariant-loop decreases-loop
+cast-place : tie.Need-overflow_cast-place invariant-loop decreases-loop
 cast-place c =
-    let s = c.before.before.before.before.before.before.requires in
+    let s = c.requires in
     omega (arith, s.0.inside (middle c.before) (omega arith))
 
-against-requires : tie.Need-against-requires invariant-loop decreases-loop
+against-requires : tie.Need-against-order-requires invariant-loop decreases-loop
 against-requires c κs =
-    let p = c.before.before.before.before.before.before.requires in
+    let p = c.requires in
     (p.0.inside (middle c.before) (omega arith), p.2)
 
-loop-less : tie.Need-loop-smaller invariant-loop decreases-loop
+loop-less : tie.Need-loop-low-smaller-in-Before invariant-loop decreases-loop
 loop-less c = omega arith
 
-loop-again : tie.Need-loop-preserved invariant-loop decreases-loop
+loop-again : tie.Need-loop-low-preserved-in-Before invariant-loop decreases-loop
 loop-again c =
-    let g = c.before.before in
-    let l = g.before.before.before in
-    narrowed_left _ _ _ _ l.before.before.before.before.requires.0 l.loop.low l.loop.high l.loop.invariant (middle g.before.before) (omega arith) (omega arith) (rw c.enum_told.given.1 at g.against.ensures)
+    narrowed_left _ _ _ _ c.requires.0 c.loop-low.low c.loop-low.high c.loop-low.invariant (middle c.before.before.before) (omega arith) (omega arith) (rw c.in-Before.is at c.against-order.ensures)
 
-returns : tie.Need-returns invariant-loop decreases-loop
+returns : tie.Need-returns-in-Same invariant-loop decreases-loop
 returns c =
-    let g = c.before.before in
-    record { at = middle g.before.before; within = omega arith; same = rw c.enum-told2.given.1 at g.against.ensures }
+    record { at = middle c.before.before.before; within = omega arith; same = rw c.in-Same.is at c.against-order.ensures }
 
-add_low : tie.Need-overflow-add-low invariant-loop decreases-loop
+add_low : tie.Need-overflow_add-low invariant-loop decreases-loop
 add_low c = omega arith
 
-loop-less-2 : tie.Need-loop-smaller-2 invariant-loop decreases-loop
+loop-less-2 : tie.Need-loop-low-smaller invariant-loop decreases-loop
 loop-less-2 c = omega arith
 
-loop-again-2 : tie.Need-loop-preserved-2 invariant-loop decreases-loop
+loop-again-2 : tie.Need-loop-low-preserved invariant-loop decreases-loop
 loop-again-2 c =
-    let g = c.before.before in
-    let l = g.before.before.before in
-    narrowed_right _ _ _ _ l.before.before.before.before.requires.0 l.loop.low l.loop.high l.loop.invariant (middle g.before.before) (omega arith) (omega arith) (rw c.enum-told3.given.1 at g.against.ensures)
+    narrowed_right _ _ _ _ c.requires.0 c.loop-low.low c.loop-low.high c.loop-low.invariant (middle c.before.before.before) (omega arith) (omega arith) (rw c.in-After.is at c.against-order.ensures)
 
-returns-2 : tie.Need-returns-2 invariant-loop decreases-loop
-returns-2 c = narrowed_all _ _ _ _ c.before.before.before.before.before.requires.0 c.before.loop.low c.before.loop.high c.before.loop.invariant c.loop-test.false
+returns-2 : tie.Need-returns invariant-loop decreases-loop
+returns-2 c = narrowed_all _ _ _ _ c.requires.0 c.loop-low.low c.loop-low.high c.loop-low.invariant c.loop-low-test.false
 
 pub find_spec : {M : Type 1} → statement M
 find_spec =
