@@ -13,88 +13,70 @@ use Rattle.opmsg_name_slots.proofs.Slots.{home_small, Slotted, slotted_none, slo
 use Rattle.opmsg_name_slots.proofs.by_slots.Statement.{statement}
 use Rattle.opmsg_name_slots.proofs.by_slots.Tie as tie
 
-abbrev invariant-loop : tie.invariant-loop
+abbrev invariant-loop : tie.invariant-loop-i
 invariant-loop xs slots₀ steps left₀ i₀ slots left i = Slotted (length slots₀) xs slots i
 
-abbrev decreases-loop : tie.decreases-loop
+abbrev decreases-loop : tie.decreases-loop-i
 decreases-loop xs slots₀ steps left₀ i₀ slots left i = length xs - i
 
 -- the turn in which a text was looked up
-abbrev T : tie.After-look invariant-loop decreases-loop → tie.In-loop invariant-loop decreases-loop
-T c = c.before.before.before.before
+abbrev T : tie.After-look-found invariant-loop decreases-loop → tie.In-loop-i invariant-loop decreases-loop
+T c = c.before.before.before
 
-abbrev X : tie.At-loop invariant-loop decreases-loop → List ℕ
-X l = l.before.before.before.args.xs.now
+abbrev X : tie.At-loop-i invariant-loop decreases-loop → List ℕ
+X l = l.args.xs.now
 
-abbrev S : tie.At-loop invariant-loop decreases-loop → List ℕ
-S l = l.before.before.before.args.slots.now
+abbrev S : tie.At-loop-i invariant-loop decreases-loop → List ℕ
+S l = l.args.slots.now
 
 -- where the search began
-start_is : (c : tie.After-look invariant-loop decreases-loop) →
-    let l = (T c).before in
-    c.before.before.home.result ≡ home_of (length (S l)) (text_at (X l) l.loop.i)
+start_is : (c : tie.After-look-found invariant-loop decreases-loop) →
+    c.home-start.result ≡ home_of (length (S c.before.before.before.before)) (text_at (X c.before.before.before.before) c.loop-i.i)
 start_is c =
-    let h = c.before.before in
-    let l = (T c).before in
-    h.home.ensures ∙ ap (λ (n : ℕ). home_of n h.before.name.result.now) l.loop.inv.size_is ∙ ap (home_of (length (S l))) h.before.name.ensures
+    c.home-start.ensures ∙ ap (λ (n : ℕ). home_of n c.name-text.result.now) c.loop-i.invariant.size_is ∙ ap (home_of (length (S c.before.before.before.before))) c.name-text.ensures
 
-free : (c : tie.After-found invariant-loop decreases-loop) →
-    let l = (T c.before.before).before in
-    Free (X l) l.loop.slots (text_at (X l) l.loop.i) (home_of (length (S l)) (text_at (X l) l.loop.i)) c.found.given.0.0
+free : (c : tie.In-Open invariant-loop decreases-loop) →
+    Free (X c.before.before.before.before.before) c.loop-i.slots (text_at (X c.before.before.before.before.before) c.loop-i.i) (home_of (length (S c.before.before.before.before.before)) (text_at (X c.before.before.before.before.before) c.loop-i.i)) c.in-Open.j
 free c =
-    let k = c.before.before in
-    told _ _ _ _ _ _ _ k.before.before.before.name.ensures (start_is k) (rw c.found.given.1 at k.look.ensures)
+    told _ _ _ _ _ _ _ c.name-text.ensures (start_is c.before) (rw c.in-Open.is at c.look-found.ensures)
   where
     told : (xs slots text text' : List ℕ) (start start' j : ℕ) → text ≡ text' → start ≡ start' → Free xs slots text start j → Free xs slots text' start' j
     told xs slots text text' start start' j e f h = rw (e, f) at h
 
-loop-holds : tie.Need-loop-init invariant-loop decreases-loop
-loop-holds c = slotted_none _ _ c.before.before.requires.2
+loop-holds : tie.Need-loop-i-init invariant-loop decreases-loop
+loop-holds c = slotted_none _ _ c.requires.2
 
-home-requires : tie.Need-home-requires invariant-loop decreases-loop
+home-requires : tie.Need-home-start-requires invariant-loop decreases-loop
 home-requires c κs =
-    let l = c.before.before in
-    omega (arith, l.loop.invariant.size_is, l.before.before.before.requires.3)
+    omega (arith, c.loop-i.invariant.size_is, c.requires.3)
 
-look-requires : tie.Need-look-requires invariant-loop decreases-loop
+look-requires : tie.Need-look-found-requires invariant-loop decreases-loop
 look-requires c κs =
-    let h = c.before in
-    let l = h.before.before.before in
-    let p = l.before.before.before.requires in
-    (l.loop.invariant.inside, rw h.home.ensures (home_small _ _ (omega (arith, l.loop.invariant.size_is, p.3))), p.1, rw h.before.name.ensures (name_without_zero _))
+    let p = c.requires in
+    (c.loop-i.invariant.inside, rw c.home-start.ensures (home_small _ _ (omega (arith, c.loop-i.invariant.size_is, p.3))), p.1, rw c.name-text.ensures (name_without_zero _))
 
-returns : tie.Need-returns invariant-loop decreases-loop
+returns : tie.Need-returns-in-Known invariant-loop decreases-loop
 returns c =
-    let k = c.before.before in
-    let t = T k in
-    let l = t.before in
-    slotted_seen _ _ _ _ l.before.before.before.pre.0 l.loop.inv t.loop-test.taken (rw k.before.before.before.name.ensures at (rw c.enum_told.given.1 at k.look.ensures))
+    slotted_seen _ _ _ _ c.requires.0 c.loop-i.invariant c.loop-i-test.true (rw c.name-text.ensures at (rw c.in-Known.is at c.look-found.ensures))
 
 -- it went on from there
-onward : (c : tie.After-found invariant-loop decreases-loop) → c.before.before.before.before.home.result ≤ c.found.given.0.0
-onward c = rw (start_is c.before.before) (free c).from
+onward : (c : tie.In-Open invariant-loop decreases-loop) → c.home-start.result ≤ c.in-Open.j
+onward c = rw (start_is c.before) (free c).from
 
-cast-slots : tie.Need-overflow-cast-slots invariant-loop decreases-loop
+cast-slots : tie.Need-overflow_cast-slots invariant-loop decreases-loop
 cast-slots c =
-    let t = T c.before.before.before.before in
-    omega (arith, t.loop-test.taken, t.before.before.before.before.pre.1)
+    omega (arith, c.loop-i-test.true, c.requires.1)
 
-next-requires : tie.Need-next-requires invariant-loop decreases-loop
+next-requires : tie.Need-next-i-requires invariant-loop decreases-loop
 next-requires c κs =
-    let n = c.before.before.before.before.before.before.before in
-    let t = n.before in
-    let l = t.before in
-    (slotted_read _ _ _ _ l.before.before.before.requires.0 l.loop.invariant t.loop-test.true, ap length n.name.ensures)
+    (slotted_read _ _ _ _ c.requires.0 c.loop-i.invariant c.loop-i-test.true, ap length c.name-text.ensures)
 
-loop-again : tie.Need-loop-preserved invariant-loop decreases-loop
+loop-again : tie.Need-loop-i-preserved invariant-loop decreases-loop
 loop-again c =
-    let d = c.before.before.before in
-    let t = T d.before.before in
-    let l = t.before in
-    slotted_more _ _ _ _ l.before.before.before.pre.0 l.loop.inv t.loop-test.taken _ (free d) _ c.next.ensures.0
+    slotted_more _ _ _ _ c.requires.0 c.loop-i.invariant c.loop-i-test.true _ (free c.before.before) _ c.next-i.ensures.0
 
-returns-4 : tie.Need-returns-4 invariant-loop decreases-loop
-returns-4 c = slotted_all _ _ _ _ c.before.before.before.before.requires.0 c.before.loop.invariant c.loop-test.false
+returns-4 : tie.Need-returns invariant-loop decreases-loop
+returns-4 c = slotted_all _ _ _ _ c.requires.0 c.loop-i.invariant c.loop-i-test.false
 
 pub by_slots_spec : {M : Type 1} → statement M
 by_slots_spec =
@@ -103,27 +85,27 @@ by_slots_spec =
     invariant-loop
     decreases-loop
     loop-holds
-    (λ c κs. c.loop-test.true)
+    (λ c κs. c.loop-i-test.true)
     home-requires
     look-requires
     (λ c. search rules)
-    (λ c. (T c.before.before).before.loop.inv.size_is)
+    (λ c. c.loop-i.invariant.size_is)
     returns
     (λ c. search rules)
-    (λ c. (T c.before.before).before.loop.inv.size_is)
+    (λ c. c.loop-i.invariant.size_is)
     (λ c. tt)
     (λ c. search rules)
-    (λ c. omega (arith, onward c.before))
-    (λ c. (T c.before.before.before.before).before.loop.inv.size_is)
+    (λ c. omega (arith, onward c))
+    (λ c. c.loop-i.invariant.size_is)
     (λ c. tt)
-    (λ c. omega (arith, onward c.before.before))
-    (λ c. omega (arith, c.if1.false))
+    (λ c. omega (arith, onward c.before))
+    (λ c. omega (arith, c.if-left-j.false))
     (λ c. omega arith)
     cast-slots
-    (λ c. omega (arith, (free c.before.before).below))
-    (λ c. omega (arith, (free c.before.before).below))
+    (λ c. omega (arith, (free c.before).below))
+    (λ c. omega (arith, (free c.before).below))
     next-requires
-    (λ c. omega (arith, c.next.ensures.1))
+    (λ c. omega (arith, c.next-i.ensures.1))
     loop-again
-    (λ c. c.before.loop.invariant.size_is)
+    (λ c. c.loop-i.invariant.size_is)
     returns-4)

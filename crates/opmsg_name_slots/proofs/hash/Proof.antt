@@ -11,10 +11,8 @@ use Rattle.opmsg_name_slots.proofs.hash.Tie as tie
 returns : tie.Need-returns
 unfolding hash_of
 returns c =
-    let m = c.before in
-    let e = m.before.before in
-    let text = e.before.before.args.text.now in
-    rw (hash_of, ← rest_part (length text / 2) text, ← e.end-words.ensures.0, ← e.end-words.ensures.1, ← m.word.ensures) c.mixed.ensures
+    let text = c.args.text.now in
+    rw (hash_of, ← rest_part (length text / 2) text, ← c.end_words-e.ensures.0, ← c.end_words-e.ensures.1, ← c.word.ensures) c.mixed.ensures
 
 pub hash_spec : {M : Type 1} → statement M
 hash_spec =

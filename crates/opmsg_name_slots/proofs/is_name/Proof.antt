@@ -7,14 +7,14 @@ use Rattle.opmsg_element_names.proofs.Ordering.{less_other}
 use Rattle.opmsg_name_slots.proofs.is_name.Statement.{statement}
 use Rattle.opmsg_name_slots.proofs.is_name.Tie as tie
 
-returns : tie.Need-returns
-returns c = (λ e. not_both refl e, λ e h. less_other (rw c.enum_told.given.1 at c.before.before.against.ensures) h)
+returns : tie.Need-returns-in-Before
+returns c = (λ e. not_both refl e, λ e h. less_other (rw c.in-Before.is at c.against-order.ensures) h)
 
-returns-2 : tie.Need-returns-2
-returns-2 c = (λ e. rw c.enum-told2.given.1 at c.before.before.against.ensures, λ e. not_both e refl)
+returns-2 : tie.Need-returns-in-Same
+returns-2 c = (λ e. rw c.in-Same.is at c.against-order.ensures, λ e. not_both e refl)
 
-returns-3 : tie.Need-returns-3
-returns-3 c = (λ e. not_both refl e, λ e h. less_other (rw c.enum-told3.given.1 at c.before.before.against.ensures) (sym h))
+returns-3 : tie.Need-returns-in-After
+returns-3 c = (λ e. not_both refl e, λ e h. less_other (rw c.in-After.is at c.against-order.ensures) (sym h))
 
 pub is_name_spec : {M : Type 1} → statement M
 is_name_spec =
