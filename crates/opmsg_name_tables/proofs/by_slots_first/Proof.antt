@@ -4,8 +4,8 @@ use borrow.Author.Rules.{rules}
 use Rattle.opmsg_name_tables.proofs.by_slots_first.Statement.{statement}
 use Rattle.opmsg_name_tables.proofs.by_slots_first.Tie as tie
 
-returns : tie.Need-returns
-returns c = rw c.before.t.given.1 at c.before.before.before.tried-slots.ensures
+returns : tie.Need-returns-in-Place
+returns c = rw c.in-Place.is at c.tried_slots-t.ensures
 
 pub by_slots_first_spec : {M : Type 1} → statement M
 by_slots_first_spec =

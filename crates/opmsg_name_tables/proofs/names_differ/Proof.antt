@@ -6,15 +6,13 @@ use Rattle.opmsg_element_names.proofs.Starts.{first_none, first_again}
 use Rattle.opmsg_name_tables.proofs.names_differ.Statement.{statement}
 use Rattle.opmsg_name_tables.proofs.names_differ.Tie as tie
 
-returns : tie.Need-returns
+returns : tie.Need-returns-then-place-xs
 returns c =
-    let g = c.before.before in
-    rw c.refused.ensures (sym (first_again _ g.before.before.requires.0 _ _ g.first-again.ensures c.before.if1.true))
+    rw c.refused.ensures (sym (first_again _ c.requires.0 _ _ c.first_again-place.ensures c.if-place-xs.true))
 
-returns-2 : tie.Need-returns-2
+returns-2 : tie.Need-returns
 returns-2 c =
-    let g = c.before in
-    sym (first_none _ g.before.before.requires.0 _ _ g.first-again.ensures c.if1.false)
+    sym (first_none _ c.requires.0 _ _ c.first_again-place.ensures c.if-place-xs.false)
 
 pub names_differ_spec : {M : Type 1} → statement M
 names_differ_spec =
