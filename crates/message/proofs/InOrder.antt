@@ -17,6 +17,7 @@ use Rattle.opmsg.proofs.Bits.{bits_known}
 use Rattle.message.specs.Message.{output}
 use Rattle.message.specs.Forward.{forwarded}
 use Rattle.message.specs.Write.{write}
+use Rattle.message.specs.Append.{append}
 use Rattle.message.specs.Move.{reordered, moved, move}
 use Rattle.message.specs.Moving.{sequences_before, placed, placed_from, moved_view}
 use Rattle.message.specs.Editions.{KnowsBits, Room}
@@ -38,7 +39,8 @@ appended_alike : {s m : List ℕ} (e : Edition) (x : List ℕ) (outs : ℕ → L
 unfolding appended_to
 appended_alike e x outs no_pair = refl
 appended_alike e x outs (pair_and (bodies c i) r) = appended_alike e x outs r
-appended_alike e x outs (pair_and (sequences c d i) r) = rw (c, d) (appended_alike e _ (λ i. outs (suc i)) r)
+appended_alike {s = s} {m = m} e x outs (pair_and {qs = qs} {rs = rs} (sequences {a = a} {c = c'} {d = d'} {f = f} {i = i'} {j = j} c d i) r) =
+    rw (c, d) (appended_alike e (first_message (output (append e x (cut m c') (cut m f) (length (outs 0))) (outs 0))) (λ i. outs (suc i)) r)
 
 -- only sequences are appended
 appended_sequences : (e : Edition) (s x : List ℕ) (qs : List Section) (outs : ℕ → List ℕ) → appended_to e s x (sequences_of qs) outs ≡ appended_to e s x qs outs
@@ -46,7 +48,8 @@ unfolding appended_to sequences_of
 appended_sequences e s x [] outs = refl
 appended_sequences e s x (None ∷ qs) outs = appended_sequences e s x qs outs
 appended_sequences e s x (Body range ∷ qs) outs = appended_sequences e s x qs outs
-appended_sequences e s x (Sequence identifier documents number ∷ qs) outs = appended_sequences e s _ qs (λ i. outs (suc i))
+appended_sequences e s x (Sequence identifier documents number ∷ qs) outs =
+    appended_sequences e s (first_message (output (append e x (cut s identifier) (cut s documents) (length (outs 0))) (outs 0))) qs (λ i. outs (suc i))
 
 module _ (e : Edition) (s : List ℕ) (v : View) (b : Bytes s) (h : read e s ≡ ok v) (known : KnowsBits 32 e s) where
   -- the body moved first

@@ -220,7 +220,7 @@ module _ (e : Edition) (s : List ℕ) (v : View) (h : read e s ≡ ok v) (b : By
   appended_nones (suc n) m [] outs = appended_nones n m [] outs
   appended_nones n m (None ∷ qs) outs = appended_nones n m qs outs
   appended_nones n m (Body range ∷ qs) outs = appended_nones n m qs outs
-  appended_nones n m (Sequence identifier documents number ∷ qs) outs = appended_nones n _ qs (λ i. outs (suc i))
+  appended_nones n m (Sequence identifier documents number ∷ qs) outs = appended_nones n (first_message (output (append e m (cut s identifier) (cut s documents) (length (outs 0))) (outs 0))) qs (λ i. outs (suc i))
 
   appends_shown : (size : ℕ) (rs : List Section) → (reads h).sections.sections ≡ body_at 20 size ∷ rs → (m : List ℕ) (outs : ℕ → List ℕ)
       → appended_to e s m (sections_of v) outs ≡ appended_to e s m rs outs
