@@ -10,15 +10,15 @@ use Rattle.message_seal.proofs.Stores.{put_none}
 use Rattle.message_seal.proofs.seal.Statement.{statement}
 use Rattle.message_seal.proofs.seal.Tie as tie
 
-returns-2 : tie.Need-returns-2
+returns-2 : tie.Need-returns-then-checksummed
 returns-2 c =
-    let p2 = c.before.before in
-    let p4 = p2.before.before in
-    let p6 = p4.before.before in
-    p2.put_word.ensures ∙ rw (checksum_with _ _ (sym p6.before.checksummed.ensures ∙ p6.if2.true), ← p4.crc.ensures)
+    let p2 = c in
+    let p4 = c in
+    let p6 = c in
+    p2.put_word.ensures ∙ rw (checksum_with _ _ (sym p6.checksummed.ensures ∙ p6.if-checksummed.true), ← p4.crc-sum.ensures)
 
-returns-3 : tie.Need-returns-3
-returns-3 c = rw (checksum_without _ _ (sym c.before.checksummed.ensures ∙ c.if2.false)) (sym (put_none _ _ c.before.before.if1.false))
+returns-3 : tie.Need-returns-else-checksummed
+returns-3 c = rw (checksum_without _ _ (sym c.checksummed.ensures ∙ c.if-checksummed.false)) (sym (put_none _ _ c.if-out-end.false))
 
 pub seal_spec : {M : Type 1} → statement M
 seal_spec =
@@ -27,7 +27,7 @@ seal_spec =
     (λ c. sym (put_too_long _ _ _ (omega arith)))
     (λ c κs. search rules)
     (λ c. search rules)
-    (λ c. sym (length-take-le _ _ c.before.before.before.if1.false))
+    (λ c. sym (length-take-le _ _ c.if-out-end.false))
     (λ c κs. search rules)
     (λ c κs. search rules)
     (λ c. search rules)
