@@ -13,4 +13,4 @@ section_in_spec =
     (λ c κs. search rules)
     (λ c κs. search rules)
     (λ c κs. search rules)
-    (λ c. rw (← c.before.section-size.ensures, ← c.before.before.section-place.ensures) c.stretch.ensures))
+    (λ c. rw (← c.section_size.ensures, ← c.section_place.ensures) c.stretch.ensures))
