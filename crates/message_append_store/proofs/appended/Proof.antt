@@ -7,16 +7,16 @@ use Rattle.message_append_store.proofs.appended.Tie as tie
 
 returns : tie.Need-returns
 returns c =
-    let p2 = c.before.before in
-    let p6 = p2.before.before.before.before in
-    let p10 = p6.before.before.before.before in
-    let p15 = p10.before.before.before.before.before in
-    let p19 = p15.before.before.before.before in
-    let p24 = p19.before.before.before.before.before in
-    let p25 = p24.before in
-    let p31 = p25.before.before.before.before.before.before in
-    message_stored _ _ _ _ _ _ p31.requires.0 p31.requires.1 p31.requires.2 (rw (← p25.checksum-size.ensures) p24.put_word.ensures) p19.put.ensures
-    p15.put-word2.ensures p10.put2.ensures p6.section.ensures p2.seal.ensures
+    let p2 = c in
+    let p6 = c in
+    let p10 = c in
+    let p15 = c in
+    let p19 = c in
+    let p24 = c in
+    let p25 = c in
+    let p31 = c in
+    message_stored _ _ _ _ _ _ p31.requires.0 p31.requires.1 p31.requires.2 (rw (← p25.checksum_size.ensures) p24.put_word.ensures) p19.put.ensures
+    p15.put_word-2.ensures p10.put-2.ensures p6.section.ensures p2.seal.ensures
 
 pub appended_spec : {M : Type 1} → statement M
 appended_spec =

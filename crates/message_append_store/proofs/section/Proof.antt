@@ -8,27 +8,27 @@ use Rattle.message_append_store.proofs.Grown.{section_stored}
 use Rattle.message_append_store.proofs.section.Statement.{statement}
 use Rattle.message_append_store.proofs.section.Tie as tie
 
-slice-write-out-2 : tie.Need-slice-write-out-2
+slice-write-out-2 : tie.Need-bounds-out-at-2
 slice-write-out-2 c =
-    let p2 = c.before.before in
-    let p6 = p2.before.before.before.before in
-    let p11 = p6.before.before.before.before.before in
-    omega (arith, p2.put.auto.0, p6.put_word.auto.0, length-set p11.args.out.now p11.args.at 1, p11.requires.0)
+    let p2 = c in
+    let p6 = c in
+    let p11 = c in
+    omega (arith, p2.put.auto.out, p6.put_word.auto.out, length-set p11.args.out.now p11.args.at 1, p11.requires.0)
 
-same_length : tie.Need-same-length
+same_length : tie.Need-shape_of-out
 same_length c =
-    let p2 = c.before.before in
-    let p6 = p2.before.before.before.before in
-    let p10 = p6.before.before.before.before in
-    let p15 = p10.before.before.before.before.before in
-    omega (arith, p2.put2.auto.0, length-set p6.put.new.0 (p15.args.at + 5 + length p15.args.identifier.now) 0, p6.put.auto.0, p10.put_word.auto.0, length-set p15.args.out.now p15.args.at 1)
+    let p2 = c in
+    let p6 = c in
+    let p10 = c in
+    let p15 = c in
+    omega (arith, p2.put-2.auto.out, length-set p6.put.new.out (p15.args.at + 5 + length p15.args.identifier.now) 0, p6.put.auto.out, p10.put_word.auto.out, length-set p15.args.out.now p15.args.at 1)
 
 returns : tie.Need-returns
 returns c =
-    let p2 = c.before.before in
-    let p6 = p2.before.before.before.before in
-    let p10 = p6.before.before.before.before in
-    section_stored _ _ _ _ p10.before.before.before.before.before.requires.0 p10.put_word.ensures p6.put.ensures p2.put2.ensures
+    let p2 = c in
+    let p6 = c in
+    let p10 = c in
+    section_stored _ _ _ _ p10.requires.0 p10.put_word.ensures p6.put.ensures p2.put-2.ensures
 
 pub section_spec : {M : Type 1} → statement M
 section_spec =
