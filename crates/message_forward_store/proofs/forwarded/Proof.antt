@@ -8,23 +8,23 @@ use Rattle.message_forward_store.proofs.Forwards.{shown_bounds, forward_same}
 use Rattle.message_forward_store.proofs.forwarded.Statement.{statement}
 use Rattle.message_forward_store.proofs.forwarded.Tie as tie
 
-sub_word : tie.Need-overflow-sub-word
-sub_word c = omega (arith, shown_bounds _ _ _ c.before.before.requires.0)
+sub_word : tie.Need-slice_bounds-word-count
+sub_word c = omega (arith, shown_bounds _ _ _ c.requires.0)
 
-slice-aggregate-put : tie.Need-slice-aggregate-put
+slice-aggregate-put : tie.Need-slice_bounds-put-end
 slice-aggregate-put c =
-    let a = c.before.before.before.before.before.before.before in
+    let a = c in
     sym (length-take-le _ a.args.s.now (shown_bounds _ _ _ a.requires.0).2)
 
-returns-2 : tie.Need-returns-2
+returns-2 : tie.Need-returns
 returns-2 c =
-    let p = c.before.before in
-    let t = p.before.before.before in
-    let w = t.before in
-    let s = w.before.before in
-    let a = s.before.before in
+    let p = c in
+    let t = c in
+    let w = c in
+    let s = c in
+    let a = c in
     p.put.ensures
-    ∙ forward_same _ _ _ a.requires.0 a.args.out.now a.requires.1 (λ i. omega (arith, s.shared-slice-known.given i)) _ w.word.ensures t.if1.false
+    ∙ forward_same _ _ _ a.requires.0 a.args.out.now a.requires.1 (λ i. omega (arith, s.shared_slice_known-1.given i)) _ w.word.ensures t.if-word-flags.false
 
 pub forwarded_spec : {M : Type 1} → statement M
 forwarded_spec =

@@ -8,37 +8,37 @@ use Rattle.message_forward_store.proofs.Forwards.{Laid, shown_bounds, forward_st
 use Rattle.message_forward_store.proofs.reflagged.Statement.{statement}
 use Rattle.message_forward_store.proofs.reflagged.Tie as tie
 
-slice-aggregate-put : tie.Need-slice-aggregate-put
+slice-aggregate-put : tie.Need-slice_bounds-put-end
 slice-aggregate-put c =
-    let a = c.before.before.before.before.before in
+    let a = c in
     sym (length-take-le 16 a.args.s.now (omega (arith, shown_bounds _ _ _ a.requires.0)))
 
-sub-put : tie.Need-overflow-sub-put
+sub-put : tie.Need-slice_bounds-put-count
 sub-put c =
-    let k = c.before.before.before.before.before.before.before.before.before.before in
-    omega (arith, shown_bounds _ _ _ k.before.before.before.requires.0, k.checksum-size.ensures)
+    let k = c in
+    omega (arith, shown_bounds _ _ _ k.requires.0, k.checksum_size.ensures)
 
-part-put-end : tie.Need-slice-bounds-put-end
+part-put-end : tie.Need-slice_bounds-put-end-2
 part-put-end c =
-    let k = c.before.before.before.before.before.before.before.before.before.before in
-    omega (arith, shown_bounds _ _ _ k.before.before.before.requires.0, k.checksum-size.ensures)
+    let k = c in
+    omega (arith, shown_bounds _ _ _ k.requires.0, k.checksum_size.ensures)
 
 -- what stands in the output after the three parts are stored
-module _ (third : tie.After-put2) where
-  abbrev second : tie.After-put-word
+module _ (third : tie.After-put-2) where
+  abbrev second : tie.After-put_word
   second = third.before.before.before.before.before
 
   abbrev first : tie.After-put
   first = second.before.before.before.before
 
-  abbrev k : tie.After-checksum-size
-  k = first.before.before.before
+  abbrev k : tie.After-checksum_size
+  k = first.before.before
 
   abbrev a : tie.Start
   a = k.before.before.before
 
-  stored : Laid a.args.s.now a.args.size a.args.flags a.args.out.now k.checksum-size.result third.put2.last.0
-  stored = record { headed = first.put.last.0; flagged = second.put_word.last.0; k_is = k.checksum-size.ensures; first = first.put.ensures; second = second.put_word.ensures; third = third.put2.ensures }
+  stored : Laid a.args.s.now a.args.size a.args.flags a.args.out.now k.checksum_size.result third.put-2.new.out
+  stored = record { headed = first.put.new.out; flagged = second.put_word.new.out; k_is = k.checksum_size.ensures; first = first.put.ensures; second = second.put_word.ensures; third = third.put-2.ensures }
 
 reseal-requires : tie.Need-reseal-requires
 reseal-requires c κs =
@@ -48,7 +48,7 @@ reseal-requires c κs =
 returns : tie.Need-returns
 returns c =
     let third = c.before.before.before.before.before.before in
-    c.before.before.reseal.ensures ∙ forward_stores _ _ _ (a third).requires.0 _ (a third).requires.1 _ _ (stored third)
+    c.reseal.ensures ∙ forward_stores _ _ _ (a third).requires.0 _ (a third).requires.1 _ _ (stored third)
 
 pub reflagged_spec : {M : Type 1} → statement M
 reflagged_spec =
@@ -56,7 +56,7 @@ reflagged_spec =
     (tie.spec
     (λ c κs. search rules)
     (λ c. search rules)
-    (λ c. omega (arith, shown_bounds _ _ _ c.before.before.before.requires.0, c.checksum-size.ensures))
+    (λ c. omega (arith, shown_bounds _ _ _ c.requires.0, c.checksum_size.ensures))
     slice-aggregate-put
     (λ c κs. search rules)
     (λ c κs. search rules)

@@ -12,11 +12,11 @@ use Rattle.message_forward_store.proofs.refreshed.Tie as tie
 returns : tie.Need-returns
 unfolding word_at
 returns c =
-    let flags = c.before in
-    let sum = flags.before.before in
-    let a = sum.before.before.before.args in
+    let flags = c in
+    let sum = c in
+    let a = sum.args in
     c.refresh.ensures
-    ∙ ap₂ (λ (x y : ℕ). refreshed x y a.flags (a.end - 20)) (sum.word.ensures ∙ ap word (rest_part a.end a.s.now)) (flags.word2.ensures ∙ ap word (rest_part 16 a.s.now))
+    ∙ ap₂ (λ (x y : ℕ). refreshed x y a.flags (a.end - 20)) (sum.word.ensures ∙ ap word (rest_part a.end a.s.now)) (flags.word-2.ensures ∙ ap word (rest_part 16 a.s.now))
 
 pub refreshed_spec : {M : Type 1} → statement M
 refreshed_spec =

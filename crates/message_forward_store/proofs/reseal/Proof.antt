@@ -12,26 +12,26 @@ use Rattle.message_forward_store.proofs.Reseals.{reseal_bounds, reseals}
 use Rattle.message_forward_store.proofs.reseal.Statement.{statement}
 use Rattle.message_forward_store.proofs.reseal.Tie as tie
 
-refreshed-requires : tie.Need-refreshed-requires
-refreshed-requires c κs = reseal_bounds _ _ _ _ c.before.before.before.before.before.requires
+refreshed-requires : tie.Need-refreshed-sum-requires
+refreshed-requires c κs = reseal_bounds _ _ _ _ c.requires
 
-returns-2 : tie.Need-returns-2
+returns-2 : tie.Need-returns-then-checksummed
 returns-2 c =
-    let w = c.before.before in
-    let r = w.before.before in
-    let t = r.before in
-    let known = t.before.before.before in
-    let a = known.before.before in
-    let set = sym t.before.checksummed.ensures ∙ t.if2.true in
+    let w = c in
+    let r = c in
+    let t = c in
+    let known = c in
+    let a = c in
+    let set = sym t.checksummed.ensures ∙ t.if-checksummed.true in
     w.put_word.ensures
     ∙ ap (λ (l : List ℕ). put a.args.end l a.args.out.now)
-    (sym (reseals _ _ _ _ a.requires (λ i. omega (arith, known.shared-slice-known.given i)) set _ r.refreshed.ensures))
+    (sym (reseals _ _ _ _ a.requires (λ i. omega (arith, known.shared_slice_known-1.given i)) set _ r.refreshed-sum.ensures))
 
-returns-3 : tie.Need-returns-3
+returns-3 : tie.Need-returns-else-checksummed
 returns-3 c =
-    let t = c.before in
-    let a = t.before.before.before.before in
-    rw (checksum_without _ _ (sym t.checksummed.ensures ∙ c.if2.false)) (sym (put_none _ _ a.requires.room))
+    let t = c in
+    let a = c in
+    rw (checksum_without _ _ (sym t.checksummed.ensures ∙ c.if-checksummed.false)) (sym (put_none _ _ a.requires.room))
 
 pub reseal_spec : {M : Type 1} → statement M
 reseal_spec =
