@@ -9,26 +9,26 @@ use Rattle.opmsg_sections.proofs.Reached.{body_reaches}
 use Rattle.opmsg_sections.proofs.body_section.Statement.{statement}
 use Rattle.opmsg_sections.proofs.body_section.Tie as tie
 
-returns : tie.Need-returns
+returns : tie.Need-returns-then-start-gt0
 unfolding body_section ◌>>=◌ refuse
-returns c = (λ p number k. rw (c.refused.ensures, body_section, k.start_is, lt-ltb _ _ c.before.if1.true), rw c.refused.ensures tt)
+returns c = (λ p number k. rw (c.refused.ensures, body_section, k.start_is, lt-ltb _ _ c.if-start-gt0.true), rw c.refused.ensures tt)
 
-returns-2 : tie.Need-returns-2
+returns-2 : tie.Need-returns-in-Past
 unfolding body_section ◌>>=◌ refuse
 returns-2 c =
-    let p3 = c.before.before.before in
-    let p5 = p3.before.before in
-    let p7 = p5.before.before in (
-      λ p number k. rw (body_section, k.start_is, le-ltb _ _ p5.if1.false, k.elements_is, ← rest_part 1 p7.args.xs.now, ← p3.document.ensures, c.before.size.given.1),
-      body_reaches _ p7.args.xs.now _ _ _ _ p3.document.ensures c.before.size.given.1,
+    let p3 = c in
+    let p5 = c in
+    let p7 = c in (
+      λ p number k. rw (body_section, k.start_is, le-ltb _ _ p5.if-start-gt0.false, k.elements_is, ← rest_part 1 p7.args.xs.now, ← p3.document.ensures, c.in-Past.is),
+      body_reaches _ p7.args.xs.now _ _ _ _ p3.document.ensures c.in-Past.is,
     )
 
-returns-3 : tie.Need-returns-3
+returns-3 : tie.Need-returns-in-Refused
 unfolding body_section ◌>>=◌ refuse
 returns-3 c =
-    let p3 = c.before.before.before in
-    let p5 = p3.before.before in
-    (λ p number k. rw (body_section, k.start_is, le-ltb _ _ p5.if1.false, k.elements_is, ← rest_part 1 p5.before.before.args.xs.now, ← p3.document.ensures, c.before.number.given.1), tt)
+    let p3 = c in
+    let p5 = c in
+    (λ p number k. rw (body_section, k.start_is, le-ltb _ _ p5.if-start-gt0.false, k.elements_is, ← rest_part 1 p5.args.xs.now, ← p3.document.ensures, c.in-Refused.is), tt)
 
 pub body_section_spec : {M : Type 1} → statement M
 body_section_spec =

@@ -8,28 +8,28 @@ use Rattle.opmsg.specs.Sections.{section_of, section_at}
 use Rattle.opmsg_sections.proofs.section.Statement.{statement}
 use Rattle.opmsg_sections.proofs.section.Tie as tie
 
-returns : tie.Need-returns
+returns : tie.Need-returns-then-kind-eq0
 unfolding section_at section_of knows ◌>>=◌ refuse
-returns c = (λ p k. rw (section_at, section_of, knows, eq-eqb _ _ c.before.if1.true) (c.body-section.ensures.0 p _ k), c.body-section.ensures.1)
+returns c = (λ p k. rw (section_at, section_of, knows, eq-eqb _ _ c.if-kind-eq0.true) (c.body_section.ensures.0 p _ k), c.body_section.ensures.1)
 
-returns-2 : tie.Need-returns-2
+returns-2 : tie.Need-returns-then-kind-ne1
 unfolding section_at section_of knows ◌>>=◌ refuse
-returns-2 c = (λ p k. rw (c.refused.ensures, section_at, knows, ne_eqb _ _ c.before.before.if1.false, ne_eqb _ _ c.before.if2.true), rw c.refused.ensures tt)
+returns-2 c = (λ p k. rw (c.refused.ensures, section_at, knows, ne_eqb _ _ c.if-kind-eq0.false, ne_eqb _ _ c.if-kind-ne1.true), rw c.refused.ensures tt)
 
-returns-3 : tie.Need-returns-3
+returns-3 : tie.Need-returns-then-not-e
 unfolding section_at section_of knows ◌>>=◌ refuse
 returns-3 c =
-    let p3 = c.before.before.before in
-    let p4 = p3.before in
-    (λ p k. rw (c.refused2.ensures, section_at, knows, ne_eqb _ _ p4.if1.false, eq-eqb _ _ p3.if2.false, not-true p4.before.before.before.args.e.sequences c.before.if3.true), rw c.refused2.ensures tt)
+    let p3 = c in
+    let p4 = c in
+    (λ p k. rw (c.refused-then-not-e.ensures, section_at, knows, ne_eqb _ _ p4.if-kind-eq0.false, eq-eqb _ _ p3.if-kind-ne1.false, c.if-not-e.true), rw c.refused-then-not-e.ensures tt)
 
-returns-4 : tie.Need-returns-4
+returns-4 : tie.Need-returns
 unfolding section_at section_of knows ◌>>=◌ refuse
 returns-4 c =
-    let p3 = c.before.before.before in
-    let p4 = p3.before in
-    let r = c.sequence-section.ensures in
-    (λ p k. rw (section_at, section_of, knows, ne_eqb _ _ p4.if1.false, eq-eqb _ _ p3.if2.false, not-false p4.before.before.before.args.e.sequences c.before.if3.false) (r.0 p _ k), r.1)
+    let p3 = c in
+    let p4 = c in
+    let r = c.sequence_section.ensures in
+    (λ p k. rw (section_at, section_of, knows, ne_eqb _ _ p4.if-kind-eq0.false, eq-eqb _ _ p3.if-kind-ne1.false, c.if-not-e.false) (r.0 p _ k), r.1)
 
 pub section_spec : {M : Type 1} → statement M
 section_spec =

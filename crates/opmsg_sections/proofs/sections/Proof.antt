@@ -11,65 +11,65 @@ use Rattle.opmsg_sections.proofs.Gather.{Passing, begins, gathered, refuses, bod
 use Rattle.opmsg_sections.proofs.sections.Statement.{statement}
 use Rattle.opmsg_sections.proofs.sections.Tie as tie
 
-abbrev invariant-loop : tie.invariant-loop
+abbrev invariant-loop : tie.invariant-loop-i
 invariant-loop e xs c₀ i₀ body₀ body-length₀ used₀ sequences₀ elements₀ c i body body-length used sequences elements =
     (c.verdict ≡ Accepted) × Passing e xs i body body-length c.entries used sequences elements
 
-abbrev decreases-loop : tie.decreases-loop
+abbrev decreases-loop : tie.decreases-loop-i
 decreases-loop e xs c₀ i₀ body₀ body-length₀ used₀ sequences₀ elements₀ c i body body-length used sequences elements = length xs - i
 
-loop-holds : tie.Need-loop-init invariant-loop decreases-loop
+loop-holds : tie.Need-loop-i-init invariant-loop decreases-loop
 loop-holds c =
-    let p2 = c.before.before in
-    (c.nothing.ensures.0, rw c.nothing.ensures.1 (begins p2.args.e p2.args.xs.now))
+    let p2 = c in
+    (c.nothing-c.ensures.0, rw c.nothing-c.ensures.1 (begins p2.args.e p2.args.xs.now))
 
 -- there is room for a body's entry, and for a sequence's
-room : (c : tie.After-known-told invariant-loop decreases-loop) → c.before.before.before.before.before.before.loop.used < 17
+room : (c : tie.In-Body invariant-loop decreases-loop) → c.loop-i.used < 17
 unfolding max_sections
 room c =
-    let p3 = c.before.before.before in
-    let p5 = p3.before.before in
-    body_room p5.before.loop.invariant.1 p5.loop-test.true _ p3.section.ensures.0 p3.section.ensures.1 c.before.size.given.1
+    let p3 = c in
+    let p5 = c in
+    body_room p5.loop-i.invariant.1 p5.loop-i-test.true _ p3.section.ensures.0 p3.section.ensures.1 c.in-Body.is
 
-room_2 : (c : tie.After-known-told2 invariant-loop decreases-loop) → c.before.before.before.before.before.before.loop.used < 17
+room_2 : (c : tie.In-Sequenced invariant-loop decreases-loop) → c.loop-i.used < 17
 unfolding max_sections
 room_2 c =
-    let p3 = c.before.before.before in
-    let p5 = p3.before.before in
-    sequence_room p5.before.loop.invariant.1 p5.loop-test.true _ p3.section.ensures.0 p3.section.ensures.1 c.before.number.given.1
+    let p3 = c in
+    let p5 = c in
+    sequence_room p5.loop-i.invariant.1 p5.loop-i-test.true _ p3.section.ensures.0 p3.section.ensures.1 c.in-Sequenced.is
 
-small : (c : tie.After-known-told invariant-loop decreases-loop) → let p6 = c.before.before.before.before.before.before in (p6.loop.i < 2 ^ 30) × (length p6.before.before.before.args.xs.now < 2 ^ 30)
+small : (c : tie.In-Body invariant-loop decreases-loop) → let p6 = c in (p6.loop-i.i < 2 ^ 30) × (length p6.args.xs.now < 2 ^ 30)
 small c =
-    let p6 = c.before.before.before.before.before.before in
-    let pre = p6.before.before.before.requires in
-    (omega (arith, c.before.before.before.before.before.loop-test.true, pre), pre)
+    let p6 = c in
+    let pre = p6.requires in
+    (omega (arith, c.loop-i-test.true, pre), pre)
 
-loop-again : tie.Need-loop-preserved invariant-loop decreases-loop
+loop-again : tie.Need-loop-i-preserved-in-Body invariant-loop decreases-loop
 loop-again c =
-    let p3 = c.before.before.before in
-    let p5 = p3.before.before in
-    (p5.before.loop.invariant.0, adds_body p5.before.loop.invariant.1 p5.loop-test.true _ p3.section.ensures.0 p3.section.ensures.1 c.before.size.given.1)
+    let p3 = c in
+    let p5 = c in
+    (p5.loop-i.invariant.0, adds_body p5.loop-i.invariant.1 p5.loop-i-test.true _ p3.section.ensures.0 p3.section.ensures.1 c.in-Body.is)
 
-loop-again-2 : tie.Need-loop-preserved-2 invariant-loop decreases-loop
+loop-again-2 : tie.Need-loop-i-preserved invariant-loop decreases-loop
 loop-again-2 c =
-    let p3 = c.before.before.before in
-    let p5 = p3.before.before in
-    (p5.before.loop.invariant.0, adds_sequence p5.before.loop.invariant.1 p5.loop-test.true _ p3.section.ensures.0 p3.section.ensures.1 c.before.number.given.1)
+    let p3 = c in
+    let p5 = c in
+    (p5.loop-i.invariant.0, adds_sequence p5.loop-i.invariant.1 p5.loop-i-test.true _ p3.section.ensures.0 p3.section.ensures.1 c.in-Sequenced.is)
 
-returns : tie.Need-returns invariant-loop decreases-loop
+returns : tie.Need-returns-in-Refused invariant-loop decreases-loop
 returns c =
-    let p2 = c.before.before in
-    let p4 = p2.before.before in
-    let p6 = p4.before.before in
-    rw c.nothing2.ensures.0 (refuses p6.before.loop.invariant.1 p6.loop-test.true _ p4.section.ensures.0 p4.section.ensures.1 p2.number2.given.1)
+    let p2 = c in
+    let p4 = c in
+    let p6 = c in
+    rw c.nothing.ensures.0 (refuses p6.loop-i.invariant.1 p6.loop-i-test.true _ p4.section.ensures.0 p4.section.ensures.1 p2.in-Refused.is)
 
-returns-2 : tie.Need-returns-2 invariant-loop decreases-loop
+returns-2 : tie.Need-returns invariant-loop decreases-loop
 returns-2 c =
-    let inv = c.before.loop.invariant in
+    let inv = c.loop-i.invariant in
     let k = inv.1 in
     rw inv.0 (record {
       parts = k.parts;
-      read = gathered k c.loop-test.false;
+      read = gathered k c.loop-i-test.false;
       shows = k.shows;
       elements_is = k.elements_is;
       few = fits k;
@@ -89,25 +89,25 @@ sections_spec =
     (λ c. omega arith)
     (λ c. omega arith)
     (λ c. omega arith)
-    (λ c κs. omega (arith, c.section-arg.given.2, c.before.before.before.before.before.requires))
+    (λ c κs. omega (arith, c.section-arg-1.given.1, c.requires))
     (λ c. search rules)
     (λ c. omega arith)
     (λ c. omega (arith, small c))
-    (λ c. let s = c.before.before.before in omega (arith, rw c.before.size.given.1 at s.section.ensures.1, s.before.section-arg.given.2, small c))
+    (λ c. let s = c in omega (arith, rw c.in-Body.is at s.section.ensures.1, s.section-arg-1.given.1, small c))
     (λ c. omega (arith, room c))
     room
     (λ c. omega (arith, room c))
-    (λ c. let s = c.before.before.before in omega (arith, rw c.before.size.given.1 at s.section.ensures.1, s.before.section-arg.given.2))
-    (λ c. let s = c.before.before.before in omega (arith, rw c.before.size.given.1 at s.section.ensures.1, s.before.section-arg.given.2))
+    (λ c. let s = c in omega (arith, rw c.in-Body.is at s.section.ensures.1, s.section-arg-1.given.1))
+    (λ c. let s = c in omega (arith, rw c.in-Body.is at s.section.ensures.1, s.section-arg-1.given.1))
     (λ c. omega arith)
     loop-again
     (λ c. search rules)
     (λ c. omega (arith, room_2 c))
     room_2
     (λ c. omega (arith, room_2 c))
-    (λ c. unfold max_sequences in omega (arith, c.before.before.before.before.before.before.loop.invariant.1.few))
-    (λ c. let s = c.before.before.before in omega (arith, rw c.before.number.given.1 at s.section.ensures.1, s.before.section-arg.given.2))
-    (λ c. omega (arith, rw c.before.number.given.1 at c.before.before.before.section.ensures.1))
+    (λ c. unfold max_sequences in omega (arith, c.loop-i.invariant.1.few))
+    (λ c. let s = c in omega (arith, rw c.in-Sequenced.is at s.section.ensures.1, s.section-arg-1.given.1))
+    (λ c. omega (arith, rw c.in-Sequenced.is at c.section.ensures.1))
     loop-again-2
     (λ c. search rules)
     (λ c κs. search rules)
