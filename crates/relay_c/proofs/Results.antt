@@ -14,37 +14,37 @@ use Rattle.opmsg.specs.declared.Reading.{Reading}
 use Rattle.message.specs.Message.{Written, viewed, output}
 use Rattle.message.specs.Inner.{decided}
 use Rattle.relay_c_results.specs.Numbers.{view_numbers, view_size}
-use Rattle.relay_c_results.specs.Interface.{outcome, with_room, result, numbers}
+use Rattle.relay_c_results.specs.Interface.{outcome, with_room, result_of, numbers}
 use Rattle.relay_c_results.proofs.Room.{outcome_answer, own_refusal, no_room, has_room}
 
 -- its result, the output, and the numbers of the view
 abbrev Promised : ℕ → Outcome Written → (code : ℕ) → (old out : List ℕ) → (view shown : List ℤ) → Type 0
 Promised room o code old out view shown =
-    (code ≡ result (with_room room o)) × ((out ≡ output (with_room room o) old) × (shown ≡ numbers (viewed (with_room room o)) view))
+    (code ≡ result_of (with_room room o)) × ((out ≡ output (with_room room o) old) × (shown ≡ numbers (viewed (with_room room o)) view))
 
 module _ (room : ℕ) (o : Outcome Written) (old : List ℕ) (view : List ℤ) where
   -- a refusal leaves all as it was
   pub refused_leaves : {number place code : ℕ} → with_room room o ≡ refused number place → code ≡ number * 2 ^ 32 + place → Promised room o code old old view view
-  unfolding result output numbers viewed ◌>>=◌
+  unfolding result_of output numbers viewed ◌>>=◌
   refused_leaves h c = rw h (c, (refl, refl))
 
   -- what is accepted is written
   pub accepted_leaves : {w : Written} (out : List ℕ) (shown : List ℤ) → with_room room o ≡ ok w → out ≡ w.bytes ++ drop (length w.bytes) old
       → shown ≡ view_numbers w.view ++ drop view_size view → Promised room o 0 old out view shown
-  unfolding result output numbers viewed ◌>>=◌
+  unfolding result_of output numbers viewed ◌>>=◌
   accepted_leaves out shown h a b = rw h (refl, (a, b))
 
 -- with no room for the view a call refuses, by what it decides without writing
-pub short : (room : ℕ) (o : Outcome Written) (v : Verdict) (old : List ℕ) (view : List ℤ) {code : ℕ} → room < view_size → judged v ≡ decided o → code ≡ result (with_room 0 (judged v))
+pub short : (room : ℕ) (o : Outcome Written) (v : Verdict) (old : List ℕ) (view : List ℤ) {code : ℕ} → room < view_size → judged v ≡ decided o → code ≡ result_of (with_room 0 (judged v))
     → Promised room o code old old view view
-unfolding result view_size decided ◌>>=◌
+unfolding result_of view_size decided ◌>>=◌
 short room (ok w) v old view l d c = refused_leaves room (ok w) old view (no_room room (ok w) l refl) (c ∙ rw (no_room 0 (judged v) (omega arith) d))
 short room (refused number place) v old view l d c = refused_leaves room (refused number place) old view (own_refusal room (refused number place) refl) (c ∙ rw (own_refusal 0 (judged v) d))
 
 -- with room for it, what the call answers is told
 pub told : (room : ℕ) (o : Outcome Written) (old out : List ℕ) (view shown : List ℤ) (r : Reading) {code : ℕ} → view_size ≤ room → r ≡ answer (viewed o) → out ≡ output o old
-    → code ≡ result (with_room room (outcome r)) → shown ≡ numbers (with_room room (outcome r)) view → Promised room o code old out view shown
-unfolding result output numbers viewed ◌>>=◌
+    → code ≡ result_of (with_room room (outcome r)) → shown ≡ numbers (with_room room (outcome r)) view → Promised room o code old out view shown
+unfolding result_of output numbers viewed ◌>>=◌
 told room (ok w) old out view shown r l is a b c =
     let e : outcome r ≡ ok w.view = ap outcome is ∙ outcome_answer _ in
     let f = has_room room (outcome r) l e in

@@ -18,7 +18,7 @@ use Rattle.message.specs.Refusals.{Bounded}
 use Rattle.message.specs.Inner.{decided}
 use Rattle.message.proofs.Refusals.{refusals_bounded}
 use Rattle.relay_c_results.specs.Numbers.{view_size}
-use Rattle.relay_c_results.specs.Interface.{with_room, result}
+use Rattle.relay_c_results.specs.Interface.{with_room, result_of}
 use Rattle.relay_c_results.specs.Inner.{Placed}
 use Rattle.relay_c.specs.Results.{Told, ResultsTell}
 
@@ -50,7 +50,7 @@ room_bounded {A} {last} l shown (ok a) b number place h =
 room_bounded l shown (refused n p) b number place h = b number place h
 
 told : {A : Type 0} {last : ℕ} (o : Outcome A) → Bounded last o → Told o
-unfolding result
+unfolding result_of
 told (ok a) b = record { zero_accepts = (λ _. (a, refl), λ _. refl); halves = λ number place h. not_ok (sym h) }
 told (refused n p) b =
     let q = b n p refl in

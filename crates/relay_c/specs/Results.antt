@@ -7,14 +7,14 @@ use Rattle.message.specs.Forward.{forward}
 use Rattle.message.specs.Write.{write}
 use Rattle.message.specs.Append.{append}
 use Rattle.message.specs.Move.{move}
-use Rattle.relay_c_results.specs.Interface.{with_room, result}
+use Rattle.relay_c_results.specs.Interface.{with_room, result_of}
 use Rattle.opmsg.specs.declared.Edition.{Edition}
 
 pub record Told {A : Type 0} (o : Outcome A) : Type 0 where
   -- The result is 0 exactly where the call accepts.
-  pub zero_accepts : (result o ≡ 0) ↔ ((a : A) × (o ≡ ok a))
+  pub zero_accepts : (result_of o ≡ 0) ↔ ((a : A) × (o ≡ ok a))
   -- Otherwise its upper half is the refusal's number, and its lower half the place.
-  pub halves : (number place : ℕ) → o ≡ refused number place → (result o / 2 ^ 32 ≡ number) × (result o % 2 ^ 32 ≡ place)
+  pub halves : (number place : ℕ) → o ≡ refused number place → (result_of o / 2 ^ 32 ≡ number) × (result_of o % 2 ^ 32 ≡ place)
 
 -- `shown` is the room for the view's numbers
 pub record ResultsTell : Type 0 where

@@ -9,7 +9,7 @@ ghost use Rattle.message.specs.Write.{write};
 ghost use Rattle.message.specs.Append.{append};
 ghost use Rattle.message.specs.Move.{move};
 ghost use Rattle.listing_stored.specs.Stored.{read_listing};
-ghost use Rattle.relay_c_results.specs.Interface.{edition_of, with_room, result, numbers};
+ghost use Rattle.relay_c_results.specs.Interface.{edition_of, with_room, result_of, numbers};
 ghost use Rattle.relay_c_listing.specs.Interface.{with_answer, listing_numbers};
 
 use message_forward_store::forwarded;
@@ -19,8 +19,8 @@ use relay_c_results::{NUMBERS, answered, edition, refusal, without_view};
 
 #[unsafe(no_mangle)]
 pub extern "C" fn relay_read(bits: u32, sequences: u8, message: &[u8], view: &mut [i64]) -> u64
-    ensures* answers { λ r. ⌜ r ≡ result (with_room (length view.old) (read (edition_of bits sequences) message.now)) ⌝ }
-    ensures* shows { λ _. ⌜ view.new ≡ numbers (with_room (length view.old) (read (edition_of bits sequences) message.now)) view.old ⌝ }
+    ensures answers { result ≡ result_of (with_room (length view.old) (read (edition_of bits sequences) message.now)) }
+    ensures shows { view.new ≡ numbers (with_room (length view.old) (read (edition_of bits sequences) message.now)) view.old }
 {
     answered(opmsg_read::read(edition(bits, sequences), message), view)
 }
@@ -33,9 +33,9 @@ pub extern "C" fn relay_forward(
     out: &mut [u8],
     view: &mut [i64],
 ) -> u64
-    ensures* answers { λ r. ⌜ r ≡ result (with_room (length view.old) (forward (edition_of bits sequences) message.now (length out.old))) ⌝ }
-    ensures* writes { λ _. ⌜ out.new ≡ output (with_room (length view.old) (forward (edition_of bits sequences) message.now (length out.old))) out.old ⌝ }
-    ensures* shows { λ _. ⌜ view.new ≡ numbers (viewed (with_room (length view.old) (forward (edition_of bits sequences) message.now (length out.old)))) view.old ⌝ }
+    ensures answers { result ≡ result_of (with_room (length view.old) (forward (edition_of bits sequences) message.now (length out.old))) }
+    ensures writes { out.new ≡ output (with_room (length view.old) (forward (edition_of bits sequences) message.now (length out.old))) out.old }
+    ensures shows { view.new ≡ numbers (viewed (with_room (length view.old) (forward (edition_of bits sequences) message.now (length out.old)))) view.old }
 {
     let r = opmsg_read::read(edition(bits, sequences), message);
     let verdict = r.verdict;
@@ -66,9 +66,9 @@ pub extern "C" fn relay_write(
     out: &mut [u8],
     view: &mut [i64],
 ) -> u64
-    ensures* answers { λ r. ⌜ r ≡ result (with_room (length view.old) (write (edition_of bits sequences) request_id response_to flags body.now (length out.old))) ⌝ }
-    ensures* writes { λ _. ⌜ out.new ≡ output (with_room (length view.old) (write (edition_of bits sequences) request_id response_to flags body.now (length out.old))) out.old ⌝ }
-    ensures* shows { λ _. ⌜ view.new ≡ numbers (viewed (with_room (length view.old) (write (edition_of bits sequences) request_id response_to flags body.now (length out.old)))) view.old ⌝ }
+    ensures answers { result ≡ result_of (with_room (length view.old) (write (edition_of bits sequences) request_id response_to flags body.now (length out.old))) }
+    ensures writes { out.new ≡ output (with_room (length view.old) (write (edition_of bits sequences) request_id response_to flags body.now (length out.old))) out.old }
+    ensures shows { view.new ≡ numbers (viewed (with_room (length view.old) (write (edition_of bits sequences) request_id response_to flags body.now (length out.old)))) view.old }
 {
     let e = edition(bits, sequences);
     if view.len() < NUMBERS {
@@ -90,9 +90,9 @@ pub extern "C" fn relay_append(
     out: &mut [u8],
     view: &mut [i64],
 ) -> u64
-    ensures* answers { λ r. ⌜ r ≡ result (with_room (length view.old) (append (edition_of bits sequences) message.now identifier.now documents.now (length out.old))) ⌝ }
-    ensures* writes { λ _. ⌜ out.new ≡ output (with_room (length view.old) (append (edition_of bits sequences) message.now identifier.now documents.now (length out.old))) out.old ⌝ }
-    ensures* shows { λ _. ⌜ view.new ≡ numbers (viewed (with_room (length view.old) (append (edition_of bits sequences) message.now identifier.now documents.now (length out.old)))) view.old ⌝ }
+    ensures answers { result ≡ result_of (with_room (length view.old) (append (edition_of bits sequences) message.now identifier.now documents.now (length out.old))) }
+    ensures writes { out.new ≡ output (with_room (length view.old) (append (edition_of bits sequences) message.now identifier.now documents.now (length out.old))) out.old }
+    ensures shows { view.new ≡ numbers (viewed (with_room (length view.old) (append (edition_of bits sequences) message.now identifier.now documents.now (length out.old)))) view.old }
 {
     let e = edition(bits, sequences);
     if view.len() < NUMBERS {
@@ -113,9 +113,9 @@ pub extern "C" fn relay_move(
     out: &mut [u8],
     view: &mut [i64],
 ) -> u64
-    ensures* answers { λ r. ⌜ r ≡ result (with_room (length view.old) (move (edition_of bits sequences) message.now behind (length out.old))) ⌝ }
-    ensures* writes { λ _. ⌜ out.new ≡ output (with_room (length view.old) (move (edition_of bits sequences) message.now behind (length out.old))) out.old ⌝ }
-    ensures* shows { λ _. ⌜ view.new ≡ numbers (viewed (with_room (length view.old) (move (edition_of bits sequences) message.now behind (length out.old)))) view.old ⌝ }
+    ensures answers { result ≡ result_of (with_room (length view.old) (move (edition_of bits sequences) message.now behind (length out.old))) }
+    ensures writes { out.new ≡ output (with_room (length view.old) (move (edition_of bits sequences) message.now behind (length out.old))) out.old }
+    ensures shows { view.new ≡ numbers (viewed (with_room (length view.old) (move (edition_of bits sequences) message.now behind (length out.old)))) view.old }
 {
     let e = edition(bits, sequences);
     if view.len() < NUMBERS {
@@ -126,8 +126,8 @@ pub extern "C" fn relay_move(
 
 #[unsafe(no_mangle)]
 pub extern "C" fn relay_read_listing(listing: &[u8], answer: &mut [i64]) -> u64
-    ensures* answers { λ r. ⌜ r ≡ result (with_answer (length answer.old) (read_listing listing.now)) ⌝ }
-    ensures* shows { λ _. ⌜ answer.new ≡ listing_numbers (with_answer (length answer.old) (read_listing listing.now)) answer.old ⌝ }
+    ensures answers { result ≡ result_of (with_answer (length answer.old) (read_listing listing.now)) }
+    ensures shows { answer.new ≡ listing_numbers (with_answer (length answer.old) (read_listing listing.now)) answer.old }
 {
     relay_c_listing::answer_listing(listing, answer)
 }

@@ -24,9 +24,9 @@ with_room room o = do
   ok a
 
 -- the result: 0 where the call accepts, or else number × 2 ^ 32 + place; a place is below 2 ^ 32
-unfoldable pub result : {A : Type 0} → Outcome A → ℕ
-result (ok a) = 0
-result (refused number place) = number * 2 ^ 32 + place
+unfoldable pub result_of : {A : Type 0} → Outcome A → ℕ
+result_of (ok a) = 0
+result_of (refused number place) = number * 2 ^ 32 + place
 
 -- the lent numbers after the call: those of the view and then what stood there, or all as it was
 unfoldable pub numbers : Outcome View → List ℤ → List ℤ

@@ -43,6 +43,7 @@ fn entry(out: &mut [i64], at: usize, section: Section)
 }
 
 // The numbers of a view, at the start of what is lent. Most entries say none, so that is tested first.
+#[tactic(auto, unfolding(crate::specs::Numbers::view_size))]
 pub fn show(v: View, out: &mut [i64])
     requires { view_size ≤ length out.old }
     ensures { out.new ≡ view_numbers v ++ drop view_size out.old }

@@ -4,7 +4,7 @@ use mathlib.Core.Path.{refl, sym, ap, ◌∙◌}
 use native.Mathlib.Omega.{arith}
 use borrow.Author.Rules.{rules}
 use Rattle.listing_stored.specs.Answers.{told}
-use Rattle.relay_c_results.specs.Interface.{result}
+use Rattle.relay_c_results.specs.Interface.{result_of}
 use Rattle.relay_c_listing.specs.Interface.{listing_numbers}
 use Rattle.relay_c_listing.proofs.Room.{refused_first}
 use Rattle.relay_c_listing.proofs.answer_listing.Statement.{statement}
@@ -29,7 +29,7 @@ returns c =
     rw (← p6.read-listing.ensures.0, p4.stored.given.1) c.before.answered.ensures
 
 returns-2 : tie.Need-returns-2
-unfolding result listing_numbers
+unfolding result_of listing_numbers
 returns-2 c =
     let p3 = c.before.before.before in
     rw (← p3.read-listing.ensures.0, c.before.stored2.given.1, refused_first) (refl, refl)

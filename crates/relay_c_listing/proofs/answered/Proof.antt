@@ -3,18 +3,18 @@
 use mathlib.Core.Path.{refl, ◌∙◌}
 use native.Mathlib.Omega.{arith}
 use borrow.Author.Rules.{rules}
-use Rattle.relay_c_results.specs.Interface.{result}
+use Rattle.relay_c_results.specs.Interface.{result_of}
 use Rattle.relay_c_listing.specs.Interface.{listing_numbers}
 use Rattle.relay_c_listing.proofs.Room.{no_room, room, same_signed, two_stored}
 use Rattle.relay_c_listing.proofs.answered.Statement.{statement}
 use Rattle.relay_c_listing.proofs.answered.Tie as tie
 
 returns : tie.Need-returns
-unfolding result listing_numbers
+unfolding result_of listing_numbers
 returns c = (rw (no_room _ _ c.before.if1.true) c.refusal.ensures, rw (no_room _ _ c.before.if1.true))
 
 returns-2 : tie.Need-returns-2
-unfolding result listing_numbers
+unfolding result_of listing_numbers
 returns-2 c =
     let start = c.before in
     let a = start.args in (

@@ -4,35 +4,35 @@ use mathlib.Core.Path.{refl}
 use lib.ListN.{length}
 use borrow.Author.Rules.{rules}
 use Rattle.relay_c_results.specs.Numbers.{view_size}
-use Rattle.relay_c_results.specs.Interface.{outcome, result, numbers}
+use Rattle.relay_c_results.specs.Interface.{outcome, result_of, numbers}
 use Rattle.relay_c_results.proofs.Room.{outcome_refused, outcome_accepted, own_refusal, no_room, has_room}
 use Rattle.relay_c_results.proofs.answered.Statement.{statement}
 use Rattle.relay_c_results.proofs.answered.Tie as tie
 
-returns : tie.Need-returns
-unfolding result numbers
+returns : tie.Need-returns-in-Refused
+unfolding result_of numbers
 returns c =
-    let v = c.before.before in
-    let a = v.before.before in
-    let f = own_refusal (length a.args.view.now) (outcome a.args.reading) (outcome_refused a.args.reading v.verdict.given.1) in
+    let v = c in
+    let a = c in
+    let f = own_refusal (length a.args.view.now) (outcome a.args.reading) (outcome_refused a.args.reading v.in-Refused.is) in
     rw f (c.refusal.ensures, refl)
 
-returns-2 : tie.Need-returns-2
-unfolding result numbers view_size
+returns-2 : tie.Need-returns-then-view-lt-NUMBERS
+unfolding result_of numbers view_size
 returns-2 c =
-    let t = c.before.before in
-    let a = t.before.before in
-    let f = no_room (length a.args.view.now) (outcome a.args.reading) c.before.if1.true (outcome_accepted a.args.reading t.enum_told.given.1) in
-    rw f (c.refusal2.ensures, refl)
+    let t = c in
+    let a = c in
+    let f = no_room (length a.args.view.now) (outcome a.args.reading) c.if-view-lt-NUMBERS.true (outcome_accepted a.args.reading t.in_default.is) in
+    rw f (c.refusal-then-view-lt-NUMBERS.ensures, refl)
 
-returns-3 : tie.Need-returns-3
-unfolding result numbers view_size
+returns-3 : tie.Need-returns
+unfolding result_of numbers view_size
 returns-3 c =
-    let l = c.before.before.before.before in
-    let t = l.before in
-    let a = t.before.before in
-    let f = has_room (length a.args.view.now) (outcome a.args.reading) l.if1.false (outcome_accepted a.args.reading t.enum_told.given.1) in
-    rw f (refl, c.before.show.ensures)
+    let l = c in
+    let t = c in
+    let a = c in
+    let f = has_room (length a.args.view.now) (outcome a.args.reading) l.if-view-lt-NUMBERS.false (outcome_accepted a.args.reading t.in_default.is) in
+    rw f (refl, c.show.ensures)
 
 pub answered_spec : {M : Type 1} → statement M
 unfolding view_size
@@ -40,11 +40,11 @@ answered_spec =
     tie.close
     (tie.spec
     (λ c. search rules)
-    (λ c κs. let v = c.before in rw v.verdict.given.1 at v.before.before.requires)
+    (λ c κs. let v = c in rw v.in-Refused.is at v.requires)
     returns
     (λ c. search rules)
     (λ c κs. search rules)
     returns-2
-    (λ c κs. c.before.before.if1.false)
+    (λ c κs. c.if-view-lt-NUMBERS.false)
     (λ c. search rules)
     returns-3)

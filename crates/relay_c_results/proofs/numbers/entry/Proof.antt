@@ -5,17 +5,17 @@ use Rattle.relay_c_results.specs.Numbers.{section_numbers}
 use Rattle.relay_c_results.proofs.numbers.entry.Statement.{statement}
 use Rattle.relay_c_results.proofs.numbers.entry.Tie as tie
 
-returns : tie.Need-returns
+returns : tie.Need-returns-in-None
 unfolding section_numbers
-returns c = rw c.before.before.before.enum_told.given.1 c.before.six.ensures
+returns c = rw c.in-None.is c.six.ensures
 
-returns-2 : tie.Need-returns-2
+returns-2 : tie.Need-returns-in-Body
 unfolding section_numbers
-returns-2 c = rw c.before.before.before.before.section.given.1 c.before.six2.ensures
+returns-2 c = rw c.in-Body.is c.six-in-Body.ensures
 
-returns-3 : tie.Need-returns-3
+returns-3 : tie.Need-returns-in-Sequence
 unfolding section_numbers
-returns-3 c = rw c.before.before.before.before.section2.given.1 c.before.six3.ensures
+returns-3 c = rw c.in-Sequence.is c.six-in-Sequence.ensures
 
 pub entry_spec : {M : Type 1} → statement M
 entry_spec =

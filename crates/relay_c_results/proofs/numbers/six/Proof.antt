@@ -12,7 +12,7 @@ use Rattle.relay_c_results.proofs.numbers.six.Tie as tie
 returns : tie.Need-returns
 returns c =
     let a = c.args in
-    rw (to_z-of_z {w = w64} (record { sfits = c.well-formed.1.1.0 }), small a.a (omega arith), small a.b (omega arith), small a.c (omega arith), small a.d (omega arith), small a.e (omega arith))
+    rw (to_z-of_z {w = w64} (record { sfits = c.well_formed.1.1.0 }), small a.a (omega arith), small a.b (omega arith), small a.c (omega arith), small a.d (omega arith), small a.e (omega arith))
     (six a.out.now a.at _ _ _ _ _ _ c.requires)
 
 pub six_spec : {M : Type 1} → statement M
