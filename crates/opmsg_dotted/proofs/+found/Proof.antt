@@ -3,7 +3,6 @@
 -- Assumes nothing.
 use Prim.Native.Nat.{ℕ, ◌+◌, ◌-◌, ◌<◌}
 use mathlib.Core.Bool.{true}
-use mathlib.Core.Logic.{⊎_elim}
 use mathlib.Core.Path.{◌≡◌, sym, ap, ◌∙◌}
 use native.Mathlib.Omega.{arith}
 use lib.ListN.{length}
@@ -15,6 +14,7 @@ use borrow.Fn.PlainCycle.{Measures, is, falls, and}
 use Rattle.opmsg_dotted.proofs.found.Reads as found-reads
 use Rattle.opmsg_dotted.proofs.found.Kinds as found-kinds
 use Rattle.opmsg_dotted.proofs.+found.Lts-found as found-lts
+use Rattle.opmsg_dotted.proofs.+found.Lts-found.{then-leads+else-n-text+then-xs-i-eq-DOCUMENT+else-found, then-leads+else-n-text+else-xs-i-eq-DOCUMENT, else-leads}
 use Rattle.opmsg_dotted.proofs.leads.Reads as leads-reads
 use Rattle.opmsg_dotted.proofs.within.Reads as within-reads
 use Rattle.opmsg_element_names.proofs.name.Reads as name-reads
@@ -35,88 +35,65 @@ found_below t = and 2 found-kinds.ps (falls 2 found-kinds.ps ◌<◌ μ-found t)
 abbrev calls : ℕ → found-lts.Claims
 calls t = (name-reads.Asked, name-reads.Learnt, leads-reads.Asked, leads-reads.Learnt, within-reads.Asked, within-reads.Learnt, found_below t, found-reads.Post, next-reads.Asked, next-reads.Learnt)
 
-abbrev invariant-loop : found-lts.invariant-loop
+abbrev invariant-loop : found-lts.invariant-loop-i
 invariant-loop xs text i₀ i = Sought xs text i
 
-abbrev decreases-loop : found-lts.decreases-loop
+abbrev decreases-loop : found-lts.decreases-loop-i
 decreases-loop xs text i₀ i = length xs - i
 
-found_loop_holds : (t : ℕ) → found-lts.Need-loop-init (calls t) (found_at t) found-reads.Post invariant-loop decreases-loop
-found_loop_holds t c = sought_none _ _ c.before.before.requires.1
+found_loop_holds : (t : ℕ) → found-lts.Need-loop-i-init (calls t) (found_at t) found-reads.Post invariant-loop decreases-loop
+found_loop_holds t c = sought_none _ _ c.requires.1
 
 -- the element has the text's first name, and that is its last
-found_returns : (t : ℕ) → found-lts.Need-returns (calls t) (found_at t) found-reads.Post invariant-loop decreases-loop
+found_returns : (t : ℕ) → found-lts.Need-returns-then-n-text (calls t) (found_at t) found-reads.Post invariant-loop decreases-loop
 found_returns t c =
-    let k = c.before.before in
-    let n = k.before in
-    let l = n.before.before in
-    sym (sought_last _ _ _ l.loop.invariant n.before.loop-test.true _ n.name.ensures (sym k.leads.ensures ∙ c.before.if1.true) c.if2.true)
+    sym (sought_last _ _ _ c.loop-i.invariant c.loop-i-test.true _ c.name-first.ensures (sym c.leads.ensures ∙ c.if-leads.true) c.if-n-text.true)
 
 -- or it is not the last, and the element is a document
-fits : (t : ℕ) (c : found-lts.Then3 (calls t) (found_at t) found-reads.Post invariant-loop decreases-loop)
-    → let n = c.before.before.before.before.before in
-    length n.name.result.now < length n.before.before.before.before.before.args.text.now
+fits : (t : ℕ) (c : found-lts.Then-xs-i-eq-DOCUMENT (calls t) (found_at t) found-reads.Post invariant-loop decreases-loop)
+    → length c.name-first.result.now < length c.args.text.now
 fits t c =
-    let d = c.before.before in
-    let k = d.before.before in
-    let n = k.before in
-    let l = n.before.before in
-    sought_fits _ _ _ l.loop.invariant n.before.loop-test.true _ n.name.ensures (sym k.leads.ensures ∙ d.before.if1.true) d.if2.false
+    sought_fits _ _ _ c.loop-i.invariant c.loop-i-test.true _ c.name-first.ensures (sym c.leads.ensures ∙ c.if-leads.true) c.if-n-text.false
 
 found_within_requires : (t : ℕ) → found-lts.Need-within-requires (calls t) (found_at t) found-reads.Post invariant-loop decreases-loop
 found_within_requires t c κs =
-    let n = c.before.before.before.before.before in
-    let l = n.before.before in
-    (sought_read _ _ _ l.loop.invariant n.before.loop-test.true, ap length n.name.ensures)
+    (sought_read _ _ _ c.loop-i.invariant c.loop-i-test.true, ap length c.name-first.ensures)
 
 found_found_requires : (t : ℕ) → found-lts.Need-found-requires (calls t) (found_at t) found-reads.Post invariant-loop decreases-loop
-found_found_requires t c κs =
-    let d = c.before.before in
-    let n = d.before.before.before.before.before in
-    let l = n.before.before in
-    let start = l.before.before.before in (
-      omega (arith, fits t d, c.found-arg.given.2, start.requires.0),
-      rw c.before.within.ensures (sought_filled _ _ _ l.loop.invariant n.before.loop-test.true d.if3.true),
-    )
+found_found_requires t c κs = (
+  omega (arith, fits t c.before.before, c.found-arg-1.given.1, c.requires.0),
+  rw c.within.ensures (sought_filled _ _ _ c.loop-i.invariant c.loop-i-test.true c.if-xs-i-eq-DOCUMENT.true),
+)
 
-found_returns_2 : (t : ℕ) → found-lts.Need-returns-2 (calls t) (found_at t) found-reads.Post invariant-loop decreases-loop
+found_returns_2 : (t : ℕ) → found-lts.Need-returns-then-found (calls t) (found_at t) found-reads.Post invariant-loop decreases-loop
 found_returns_2 t c =
-    let f = c.before in
-    let w = f.before.before in
-    let d = w.before in
-    let k = d.before.before.before.before in
-    let n = k.before in
-    let l = n.before.before in
-    let a = l.before.before.before.args in
-    sym (sought_within _ _ _ l.loop.invariant n.before.loop-test.true _ n.name.ensures (sym k.leads.ensures ∙ d.before.before.before.if1.true) (fits t d) d.if3.true
-    (rw (w.within.ensures, rest_part (length n.name.result.now + 1) a.text.now) at (sym f.found.ensures ∙ c.if4.true)))
+    let a = c.args in
+    sym (sought_within _ _ _ c.loop-i.invariant c.loop-i-test.true _ c.name-first.ensures (sym c.leads.ensures ∙ c.if-leads.true) (fits t c.before.before.before.before) c.if-xs-i-eq-DOCUMENT.true
+    (rw (c.within.ensures, rest_part (length c.name-first.result.now + 1) a.text.now) at (sym c.found.ensures ∙ c.if-found.true)))
 
-found_next_requires : (t : ℕ) → found-lts.Need-next-requires (calls t) (found_at t) found-reads.Post invariant-loop decreases-loop
+found_next_requires : (t : ℕ) → found-lts.Need-next-i-requires (calls t) (found_at t) found-reads.Post invariant-loop decreases-loop
 found_next_requires t c κs =
-    let n = c.before.before in
-    (sought_read _ _ _ n.before.before.loop.invariant n.before.loop-test.true, ap length n.name.ensures)
+    (sought_read _ _ _ c.loop-i.invariant c.loop-i-test.true, ap length c.name-first.ensures)
 
-found_loop_again : (t : ℕ) → found-lts.Need-loop-preserved (calls t) (found_at t) found-reads.Post invariant-loop decreases-loop
+found_loop_again : (t : ℕ) → found-lts.Need-loop-i-preserved (calls t) (found_at t) found-reads.Post invariant-loop decreases-loop
 found_loop_again t c =
-    let k = c.before.before in
-    let n = k.before in
-    let l = n.before.before in
-    let a = l.before.before.before.args in
-    let more = n.before.loop-test.true in
-    let end = c.next.ensures.0 in
-    let name = n.name.result.now in
-    let fits : k.leads.result ≡ true → (length name ≡ length a.text.now → ⊥) → length name < length a.text.now =
-    λ e d. sought_fits _ _ _ l.loop.invariant more _ n.name.ensures (sym k.leads.ensures ∙ e) d in
-    ⊎_elim
-    (λ w. sought_not_within _ _ _ l.loop.invariant more _ n.name.ensures (sym k.leads.ensures ∙ w.0.taken) (fits w.0.taken w.1.left) _ end w.3.taken
-    (rw (w.4.ensures, rest_part (length name + 1) a.text.now) at (sym w.6.ensures ∙ w.7.left)))
-    (⊎_elim
-    (λ w. sought_no_document _ _ _ l.loop.invariant more _ n.name.ensures (sym k.leads.ensures ∙ w.0.taken) (fits w.0.taken w.1.left) _ end w.3.left)
-    (λ w. sought_other _ _ _ l.loop.invariant more _ end _ n.name.ensures (sym k.leads.ensures ∙ w.left)))
-    c.before.if1.branch
+    let a = c.args in
+    let more = c.loop-i-test.true in
+    let end = c.next-i.ensures.0 in
+    let name = c.name-first.result.now in
+    let fits : c.leads.result ≡ true → (length name ≡ length a.text.now → ⊥) → length name < length a.text.now =
+    λ e d. sought_fits _ _ _ c.loop-i.invariant more _ c.name-first.ensures (sym c.leads.ensures ∙ e) d in
+    elim c.if-leads.branch [
+      | then-leads+else-n-text+then-xs-i-eq-DOCUMENT+else-found w ↦
+          sought_not_within _ _ _ c.loop-i.invariant more _ c.name-first.ensures (sym c.leads.ensures ∙ w.if-leads.true) (fits w.if-leads.true w.if-n-text.false) _ end w.if-xs-i-eq-DOCUMENT.true
+          (rw (w.within.ensures, rest_part (length name + 1) a.text.now) at (sym w.found.ensures ∙ w.if-found.false))
+      | then-leads+else-n-text+else-xs-i-eq-DOCUMENT w ↦
+          sought_no_document _ _ _ c.loop-i.invariant more _ c.name-first.ensures (sym c.leads.ensures ∙ w.if-leads.true) (fits w.if-leads.true w.if-n-text.false) _ end w.if-xs-i-eq-DOCUMENT.false
+      | else-leads w ↦ sought_other _ _ _ c.loop-i.invariant more _ end _ c.name-first.ensures (sym c.leads.ensures ∙ w.if-leads.false)
+    ]
 
-found_returns_3 : (t : ℕ) → found-lts.Need-returns-3 (calls t) (found_at t) found-reads.Post invariant-loop decreases-loop
-found_returns_3 t c = sym (sought_end _ _ _ c.before.loop.invariant c.loop-test.false)
+found_returns_3 : (t : ℕ) → found-lts.Need-returns (calls t) (found_at t) found-reads.Post invariant-loop decreases-loop
+found_returns_3 t c = sym (sought_end _ _ _ c.loop-i.invariant c.loop-i-test.false)
 
 pub +found_spec : {M : Type 1} → statement M
 +found_spec =
@@ -135,6 +112,6 @@ pub +found_spec : {M : Type 1} → statement M
     (found_found_requires t)
     (found_returns_2 t)
     (found_next_requires t)
-    (λ c. omega (arith, c.next.ensures.1))
+    (λ c. omega (arith, c.next-i.ensures.1))
     (found_loop_again t)
     (found_returns_3 t)

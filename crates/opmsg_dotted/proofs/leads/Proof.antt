@@ -10,48 +10,42 @@ use Rattle.opmsg_dotted.proofs.FirstName.{first_name, first_short, alike, alike_
 use Rattle.opmsg_dotted.proofs.leads.Statement.{statement}
 use Rattle.opmsg_dotted.proofs.leads.Tie as tie
 
-abbrev invariant-loop : tie.invariant-loop
+abbrev invariant-loop : tie.invariant-loop-i
 invariant-loop text name i₀ i = (i ≤ length name) × (length name ≤ length text) × (same_text (first_name text) name ≡ alike text name i)
 
-abbrev decreases-loop : tie.decreases-loop
+abbrev decreases-loop : tie.decreases-loop-i
 decreases-loop text name i₀ i = length name - i
 
-returns : tie.Need-returns invariant-loop decreases-loop
-returns c = sym (first_short _ _ c.if1.true)
+returns : tie.Need-returns-then-text-name invariant-loop decreases-loop
+returns c = sym (first_short _ _ c.if-text-name.true)
 
-loop-holds : tie.Need-loop-init invariant-loop decreases-loop
+loop-holds : tie.Need-loop-i-init invariant-loop decreases-loop
 loop-holds c = (omega arith, omega arith, refl)
 
-returns-2 : tie.Need-returns-2 invariant-loop decreases-loop
+returns-2 : tie.Need-returns-then-byte-name invariant-loop decreases-loop
 returns-2 c =
-    let l = c.before.before.before.before in
-    let a = l.before.before.args in
-    sym (l.loop.invariant.2 ∙ alike_other a.text.now a.name.now l.loop.i (omega arith) (omega arith) c.if2.true)
+    let a = c.args in
+    sym (c.loop-i.invariant.2 ∙ alike_other a.text.now a.name.now c.loop-i.i (omega arith) (omega arith) c.if-byte-name.true)
 
-returns-3 : tie.Need-returns-3 invariant-loop decreases-loop
+returns-3 : tie.Need-returns-then-byte-eq-DOT invariant-loop decreases-loop
 returns-3 c =
-    let l = c.before.before.before.before.before in
-    let a = l.before.before.args in
-    sym (l.loop.invariant.2 ∙ alike_dot a.text.now a.name.now l.loop.i (omega arith) (omega arith) c.if3.true)
+    let a = c.args in
+    sym (c.loop-i.invariant.2 ∙ alike_dot a.text.now a.name.now c.loop-i.i (omega arith) (omega arith) c.if-byte-eq-DOT.true)
 
-loop-again : tie.Need-loop-preserved invariant-loop decreases-loop
+loop-again : tie.Need-loop-i-preserved invariant-loop decreases-loop
 loop-again c =
-    let same = c.before in
-    let l = same.before.before.before.before in
-    let a = l.before.before.args in
-    (omega arith, l.loop.invariant.1, l.loop.invariant.2 ∙ alike_more a.text.now a.name.now l.loop.i (omega arith) (omega arith) same.if2.false c.if3.false)
+    let a = c.args in
+    (omega arith, c.loop-i.invariant.1, c.loop-i.invariant.2 ∙ alike_more a.text.now a.name.now c.loop-i.i (omega arith) (omega arith) c.if-byte-name.false c.if-byte-eq-DOT.false)
 
-returns-4 : tie.Need-returns-4 invariant-loop decreases-loop
+returns-4 : tie.Need-returns-then-i-text invariant-loop decreases-loop
 returns-4 c =
-    let l = c.before.before in
-    let a = l.before.before.args in
-    sym (l.loop.invariant.2 ∙ alike_end a.text.now a.name.now l.loop.i (omega arith) (omega arith))
+    let a = c.args in
+    sym (c.loop-i.invariant.2 ∙ alike_end a.text.now a.name.now c.loop-i.i (omega arith) (omega arith))
 
-returns-5 : tie.Need-returns-5 invariant-loop decreases-loop
+returns-5 : tie.Need-returns-else-i-text invariant-loop decreases-loop
 returns-5 c =
-    let l = c.before.before.before in
-    let a = l.before.before.args in
-    sym (l.loop.invariant.2 ∙ alike_all a.text.now a.name.now l.loop.i (omega arith) (omega arith))
+    let a = c.args in
+    sym (c.loop-i.invariant.2 ∙ alike_all a.text.now a.name.now c.loop-i.i (omega arith) (omega arith))
 
 pub leads_spec : {M : Type 1} → statement M
 leads_spec =

@@ -11,10 +11,10 @@ undotted_spec =
     tie.close
     (tie.spec
     (λ c κs. search rules)
-    (λ c e. omega (arith, c.until-dot.ensures, eqb-true c.until-dot.result _ e))
+    (λ c e. omega (arith, c.until_dot.ensures, eqb-true c.until_dot.result _ e))
     (λ c κs. search rules)
-    (λ c e. no_dots _ (c.clear-by.ensures e))
+    (λ c e. no_dots _ (c.clear_by.ensures e))
     (λ c κs. search rules)
-    (λ c e. no_dots _ (c.clear-by2.ensures e))
+    (λ c e. no_dots _ (c.clear_by-then-text-lt16.ensures e))
     (λ c κs. search rules)
-    (λ c e. no_dots _ (c.clear-by3.ensures e)))
+    (λ c e. no_dots _ (c.clear_by-2.ensures e)))

@@ -4,30 +4,28 @@ use Prim.Native.Nat.{◌≤◌, ◌+◌, ◌-◌}
 use native.Mathlib.Omega.{arith}
 use mathlib.Core.Path.{◌≡◌}
 use lib.ListN.{length, drop}
-use borrow.Author.Tests.{not-true, not-false}
+use borrow.Author.Tests.{ne_eqb, eq-eqb}
 use Rattle.opmsg.specs.Dotted.{until_dot}
 use Rattle.opmsg_dotted.proofs.FirstName.{at_dot, past_byte, past_all}
 use Rattle.opmsg_dotted.proofs.until_dot.Statement.{statement}
 use Rattle.opmsg_dotted.proofs.until_dot.Tie as tie
 
-abbrev invariant-loop : tie.invariant-loop
+abbrev invariant-loop : tie.invariant-loop-i
 invariant-loop text i₀ i = (i ≤ length text) × (until_dot text ≡ i + until_dot (drop i text))
 
-abbrev decreases-loop : tie.decreases-loop
+abbrev decreases-loop : tie.decreases-loop-i
 decreases-loop text i₀ i = length text - i
 
-loop-again : tie.Need-loop-preserved invariant-loop decreases-loop
+loop-again : tie.Need-loop-i-preserved invariant-loop decreases-loop
 loop-again c =
-    let b = c.before.before.before in
-    omega (arith, past_byte b.before.args.text.now b.loop.i c.before.before.loop-test.true (not-true _ c.if1.true))
+    omega (arith, past_byte c.args.text.now c.loop-i.i c.loop-i-test.true (ne_eqb _ _ c.if-text-i-ne-DOT.true))
 
-at-a-dot : tie.Need-returns invariant-loop decreases-loop
+at-a-dot : tie.Need-returns-else-text-i-ne-DOT invariant-loop decreases-loop
 at-a-dot c =
-    let b = c.before.before.before in
-    omega (arith, at_dot b.before.args.text.now b.loop.i c.before.before.loop-test.true (not-false _ c.if1.false))
+    omega (arith, at_dot c.args.text.now c.loop-i.i c.loop-i-test.true (eq-eqb _ _ c.if-text-i-ne-DOT.false))
 
-at-the-end : tie.Need-returns-2 invariant-loop decreases-loop
-at-the-end c = omega (arith, past_all c.before.before.args.text.now c.before.loop.i c.loop-test.false)
+at-the-end : tie.Need-returns-after-loop-i invariant-loop decreases-loop
+at-the-end c = omega (arith, past_all c.args.text.now c.loop-i.i c.loop-i-test.false)
 
 pub until_dot_spec : {M : Type 1} → statement M
 until_dot_spec =

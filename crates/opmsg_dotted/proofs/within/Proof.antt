@@ -2,7 +2,6 @@
 -- Assumes nothing.
 use Prim.Native.Nat.{◌+◌, ◌-◌, ◌<◌}
 use mathlib.Core.Path.{◌≡◌, ◌∙◌}
-use mathlib.Core.Logic.{⊎_elim}
 use native.Mathlib.Omega.{arith}
 use lib.ListN.{length, drop, length-drop}
 use borrow.Author.Rules.{rules}
@@ -11,6 +10,7 @@ use Rattle.bson_skip.proofs.Span.{element_is}
 use Rattle.opmsg.specs.Dotted.{elements_within}
 use Rattle.opmsg_element_names.proofs.Ordering.{name_length_lem}
 use Rattle.opmsg_dotted.proofs.within.Statement.{statement}
+use Rattle.opmsg_dotted.proofs.within.Lts.{then-size-lt5, else-size-lt5}
 use Rattle.opmsg_dotted.proofs.within.Tie as tie
 
 -- the element's type and name stand within
@@ -20,16 +20,15 @@ named c =
     let xs = c.args.xs.now in
     omega (arith, (element_is (drop p xs) c.requires.0.0).named, c.requires.1, name_length_lem (drop p xs), length-drop p xs)
 
-inner_is : (c : tie.Joined1) → c.if1.inner ≡ c.before.word.result - 5
-inner_is c = ⊎_elim (λ w. omega arith) (λ w. omega arith) c.if1.branch
+inner_is : (c : tie.Joined-size-lt5) → c.if-size-lt5.inner ≡ c.word-size.result - 5
+inner_is c = elim c.if-size-lt5.branch [ then-size-lt5 w ↦ omega arith | else-size-lt5 w ↦ omega arith ]
 
 returns : tie.Need-returns
 unfolding elements_within
 returns c =
-    let s = c.before.before.before.before.before.before in
-    let element = drop s.args.place s.args.xs.now in
+    let element = drop c.args.place c.args.xs.now in
     c.stretch.ensures
-    ∙ rw (inner_is c.before, c.before.before.word.ensures, rest_part s.args.place s.args.xs.now, rest_part (s.args.n + 2) element, s.requires.1)
+    ∙ rw (inner_is c.before, c.word-size.ensures, rest_part c.args.place c.args.xs.now, rest_part (c.args.n + 2) element, c.requires.1)
 
 pub within_spec : {M : Type 1} → statement M
 within_spec =
@@ -39,8 +38,8 @@ within_spec =
     (λ c. omega (arith, named c.before))
     (λ c. search rules)
     (λ c. omega (arith, named c.before.before))
-    (λ c. omega (arith, named c.before.before, length-drop c.before.before.args.place c.before.before.args.xs.now))
-    (λ c. omega (arith, named c.before.before, length-drop c.before.before.args.place c.before.before.args.xs.now))
+    (λ c. omega (arith, named c.before.before, length-drop c.args.place c.args.xs.now))
+    (λ c. omega (arith, named c.before.before, length-drop c.args.place c.args.xs.now))
     (λ c. search rules)
     (λ c κs. search rules)
     (λ c. search rules)
