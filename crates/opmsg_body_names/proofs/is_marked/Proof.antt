@@ -6,12 +6,12 @@ use Rattle.opmsg_body_names.proofs.Distinct.{slot_small}
 use Rattle.opmsg_body_names.proofs.is_marked.Statement.{statement}
 use Rattle.opmsg_body_names.proofs.is_marked.Tie as tie
 
-element-copy-out-result : tie.Need-element-copy-out-result
-element-copy-out-result c = rw c.before.slot.ensures (slot_small _)
+element-copy-out-result : tie.Need-bounds-marks-place
+element-copy-out-result c = rw c.slot-place.ensures (slot_small _)
 
 returns : tie.Need-returns
 unfolding marked
-returns c = rw (c.before.bit.ensures, c.before.before.slot.ensures)
+returns c = rw (c.bit-set.ensures, c.slot-place.ensures)
 
 pub is_marked_spec : {M : Type 1} → statement M
 is_marked_spec =

@@ -6,15 +6,15 @@ use Rattle.opmsg_body_names.proofs.Distinct.{slot_small}
 use Rattle.opmsg_body_names.proofs.mark.Statement.{statement}
 use Rattle.opmsg_body_names.proofs.mark.Tie as tie
 
-element-copy-out-old : tie.Need-element-copy-out-old
-element-copy-out-old c = rw c.before.slot.ensures (slot_small _)
+element-copy-out-old : tie.Need-bounds-marks-place
+element-copy-out-old c = rw c.slot-place.ensures (slot_small _)
 
-element-write-marks : tie.Need-element-write-marks
-element-write-marks c = rw c.before.before.slot.ensures (slot_small _)
+element-write-marks : tie.Need-bounds-marks-place-2
+element-write-marks c = rw c.slot-place.ensures (slot_small _)
 
 returns : tie.Need-returns
 unfolding marked marking
-returns c = (rw (c.before.bit.ensures, c.before.before.slot.ensures), rw (c.before.bit.ensures, c.before.before.slot.ensures))
+returns c = (rw (c.bit-set.ensures, c.slot-place.ensures), rw (c.bit-set.ensures, c.slot-place.ensures))
 
 pub mark_spec : {M : Type 1} → statement M
 mark_spec =

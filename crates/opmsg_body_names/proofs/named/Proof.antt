@@ -9,39 +9,32 @@ use Rattle.opmsg_body_names.proofs.Elements.{Sought, reached_read, sought_none, 
 use Rattle.opmsg_body_names.proofs.named.Statement.{statement}
 use Rattle.opmsg_body_names.proofs.named.Tie as tie
 
-abbrev invariant-loop : tie.invariant-loop
+abbrev invariant-loop : tie.invariant-loop-i
 invariant-loop xs k text i₀ left₀ i left = Sought xs k text i left
 
-abbrev decreases-loop : tie.decreases-loop
+abbrev decreases-loop : tie.decreases-loop-i
 decreases-loop xs k text i₀ left₀ i left = length xs - i
 
-loop-holds : tie.Need-loop-init invariant-loop decreases-loop
-loop-holds c = sought_none _ _ _ c.before.before.requires
+loop-holds : tie.Need-loop-i-init invariant-loop decreases-loop
+loop-holds c = sought_none _ _ _ c.requires
 
-returns : tie.Need-returns invariant-loop decreases-loop
-returns c = sym (sought_all _ _ _ _ _ c.before.before.loop.invariant c.if1.true)
+returns : tie.Need-returns-then-left-eq0 invariant-loop decreases-loop
+returns c = sym (sought_all _ _ _ _ _ c.loop-i.invariant c.if-left-eq0.true)
 
-returns-2 : tie.Need-returns-2 invariant-loop decreases-loop
+returns-2 : tie.Need-returns-then-same invariant-loop decreases-loop
 returns-2 c =
-    let n = c.before.before in
-    let t = n.before.before in
-    sym (sought_found _ _ _ _ _ t.before.loop.invariant t.loop-test.true (omega arith) (rw n.name.ensures at (sym c.before.same.ensures ∙ c.if2.true)))
+    sym (sought_found _ _ _ _ _ c.loop-i.invariant c.loop-i-test.true (omega arith) (rw c.name-other.ensures at (sym c.same.ensures ∙ c.if-same.true)))
 
-next-requires : tie.Need-next-requires invariant-loop decreases-loop
+next-requires : tie.Need-next-i-requires invariant-loop decreases-loop
 next-requires c κs =
-    let n = c.before.before in
-    let t = n.before.before in
-    (reached_read _ _ _ t.before.loop.invariant.reached t.loop-test.true, ap length n.name.ensures)
+    (reached_read _ _ _ c.loop-i.invariant.reached c.loop-i-test.true, ap length c.name-other.ensures)
 
-loop-again : tie.Need-loop-preserved invariant-loop decreases-loop
+loop-again : tie.Need-loop-i-preserved invariant-loop decreases-loop
 loop-again c =
-    let q = c.before in
-    let n = q.before.before in
-    let t = n.before.before in
-    sought_next _ _ _ _ _ t.before.loop.invariant t.loop-test.true (omega arith) _ c.next.ensures.0 (rw n.name.ensures at (sym q.before.same.ensures ∙ q.if2.false))
+    sought_next _ _ _ _ _ c.loop-i.invariant c.loop-i-test.true (omega arith) _ c.next-i.ensures.0 (rw c.name-other.ensures at (sym c.same.ensures ∙ c.if-same.false))
 
-returns-3 : tie.Need-returns-3 invariant-loop decreases-loop
-returns-3 c = sym (sought_end _ _ _ _ _ c.before.loop.invariant c.loop-test.false)
+returns-3 : tie.Need-returns invariant-loop decreases-loop
+returns-3 c = sym (sought_end _ _ _ _ _ c.loop-i.invariant c.loop-i-test.false)
 
 pub named_spec : {M : Type 1} → statement M
 named_spec =
@@ -56,6 +49,6 @@ named_spec =
     returns-2
     next-requires
     (λ c. omega arith)
-    (λ c. omega (arith, c.next.ensures.1))
+    (λ c. omega (arith, c.next-i.ensures.1))
     loop-again
     returns-3)

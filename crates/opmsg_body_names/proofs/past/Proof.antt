@@ -6,7 +6,7 @@ use Rattle.opmsg_body_names.proofs.Texts.{not_both}
 use Rattle.opmsg_body_names.proofs.past.Statement.{statement}
 use Rattle.opmsg_body_names.proofs.past.Tie as tie
 
-returns-2 : tie.Need-returns-2
+returns-2 : tie.Need-returns
 returns-2 c = λ e. not_both refl e
 
 pub past_spec : {M : Type 1} → statement M

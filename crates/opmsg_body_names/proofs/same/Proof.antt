@@ -10,34 +10,29 @@ use Rattle.opmsg_body_names.proofs.Texts.{same_more, same_other, same_end, same_
 use Rattle.opmsg_body_names.proofs.same.Statement.{statement}
 use Rattle.opmsg_body_names.proofs.same.Tie as tie
 
-abbrev invariant-loop : tie.invariant-loop
+abbrev invariant-loop : tie.invariant-loop-i
 invariant-loop a b i₀ i = (i ≤ length a) × (same_text a b ≡ same_text (drop i a) (drop i b))
 
-abbrev decreases-loop : tie.decreases-loop
+abbrev decreases-loop : tie.decreases-loop-i
 decreases-loop a b i₀ i = length a - i
 
-returns : tie.Need-returns invariant-loop decreases-loop
-returns c = sym (same_longer _ _ c.if1.true)
+returns : tie.Need-returns-then-a-b invariant-loop decreases-loop
+returns c = sym (same_longer _ _ c.if-a-b.true)
 
-loop-holds : tie.Need-loop-init invariant-loop decreases-loop
+loop-holds : tie.Need-loop-i-init invariant-loop decreases-loop
 loop-holds c = (omega arith, refl)
 
-returns-2 : tie.Need-returns-2 invariant-loop decreases-loop
+returns-2 : tie.Need-returns-then-a-i invariant-loop decreases-loop
 returns-2 c =
-    let p4 = c.before.before.before.before in
-    let p6 = p4.before.before in
-    sym (p4.loop.invariant.1 ∙ same_other p6.args.a.now p6.args.b.now p4.loop.i (omega arith) (omega arith) c.if2.true)
+    sym (c.loop-i.invariant.1 ∙ same_other c.args.a.now c.args.b.now c.loop-i.i (omega arith) (omega arith) c.if-a-i.true)
 
-loop-again : tie.Need-loop-preserved invariant-loop decreases-loop
+loop-again : tie.Need-loop-i-preserved invariant-loop decreases-loop
 loop-again c =
-    let p4 = c.before.before.before.before in
-    let p6 = p4.before.before in
-    (omega arith, p4.loop.invariant.1 ∙ same_more p6.args.a.now p6.args.b.now p4.loop.i (omega arith) (omega arith) c.if2.false)
+    (omega arith, c.loop-i.invariant.1 ∙ same_more c.args.a.now c.args.b.now c.loop-i.i (omega arith) (omega arith) c.if-a-i.false)
 
-returns-3 : tie.Need-returns-3 invariant-loop decreases-loop
+returns-3 : tie.Need-returns invariant-loop decreases-loop
 returns-3 c =
-    let p3 = c.before.before.before in
-    sym (c.before.loop.invariant.1 ∙ same_end p3.args.a.now p3.args.b.now c.before.loop.i (omega arith) (omega arith))
+    sym (c.loop-i.invariant.1 ∙ same_end c.args.a.now c.args.b.now c.loop-i.i (omega arith) (omega arith))
 
 pub same_spec : {M : Type 1} → statement M
 same_spec =

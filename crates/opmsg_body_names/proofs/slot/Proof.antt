@@ -12,4 +12,4 @@ slot_spec =
     (tie.spec
     (λ c κs. search rules)
     (λ c κs. search rules)
-    (λ c. rw (slot_of, ← c.before.end-words.ensures.0, ← c.before.end-words.ensures.1) c.spread.ensures))
+    (λ c. rw (slot_of, ← c.end_words-e.ensures.0, ← c.end_words-e.ensures.1) c.spread.ensures))
