@@ -1,13 +1,13 @@
 -- Sections of the grammar are read, one behind the other, where a body or a sequence may still come and the limits are kept.
 -- Assumes nothing.
 use Prim.Native.Nat.{ℕ, zero, suc, ◌+◌, ◌-◌, ◌^◌, ◌≤◌, ◌<◌}
-use mathlib.Core.Bool.{Bool, true, false, not, or-true}
+use mathlib.Core.Bool.{Bool, true, false, not}
 use mathlib.Core.Path.{◌≡◌, refl, sym, ap, ◌∙◌}
 use mathlib.Core.List.{List, [], ◌∷◌, ◌++◌, append_assoc, append-nil}
 use native.Mathlib.Omega.{arith}
 use native.Mathlib.Nat.{zero-add, add-zero}
 use native.Mathlib.Numerals.{one-add}
-use lib.ListN.{length, get_or, take, drop, length-append}
+use lib.ListN.{length, take, drop, length-append}
 use lib.Seq.{take_at, drop_at, drop-append_seam}
 use lib.Dec.{T}
 use borrow.Author.Tests.{le-ltb, lt-leb, ne_eqb}
@@ -20,7 +20,7 @@ use Rattle.wire.proofs.Walk.{walk_done, walk_step}
 use Rattle.utf8.specs.Utf8.{Utf8}
 use Rattle.utf8.proofs.Longest.{text_is_utf8}
 use Rattle.bson_elements.specs.Element.{max_elements}
-use Rattle.bson.specs.Document.{document_at, max_levels}
+use Rattle.bson.specs.Document.{max_levels}
 use Rattle.bson_grammar.specs.Grammar.{◌∈◌, ZeroEnded, Document}
 use Rattle.bson_grammar.proofs.Grammar.{complete}
 use Rattle.bson_grammar.proofs.Texts.{document_long, until_ended}

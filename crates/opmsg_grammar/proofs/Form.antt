@@ -1,21 +1,21 @@
 -- The bytes of a message as the grammar has them, and as reading sees them: the header's words, the flag word, the sections and the checksum.
 -- Assumes nothing.
-use Prim.Native.Nat.{ℕ, ◌+◌, ◌-◌, ◌^◌, ◌≤◌, ◌<◌}
+use Prim.Native.Nat.{ℕ, ◌+◌, ◌^◌, ◌≤◌, ◌<◌}
 use mathlib.Core.Path.{◌≡◌, refl, sym, ap, ◌∙◌}
-use mathlib.Core.List.{List, [], ◌∷◌, ◌++◌, append_assoc, append-nil}
+use mathlib.Core.List.{List, [], ◌++◌}
 use native.Mathlib.Omega.{arith}
-use lib.ListN.{length, take, drop, take-append-drop}
-use lib.Seq.{take-add, take_at, length-take-le}
+use lib.ListN.{length, take, drop}
+use lib.Seq.{take-add, take_at}
 use Rattle.wire.specs.Outcome.{ok}
-use Rattle.wire.specs.Bytes.{Bytes, word, word_at, le32}
+use Rattle.wire.specs.Bytes.{Bytes, word_at, le32}
 use Rattle.wire.proofs.Bytes.{word_le32, word_at_front}
-use Rattle.opmsg.specs.Layout.{max_length, message_length, op_code, flag_word, section_bytes}
+use Rattle.opmsg.specs.Layout.{max_length, message_length, flag_word, section_bytes}
 use Rattle.opmsg.specs.Read.{read}
 use Rattle.opmsg.proofs.Accepted.{reads}
 use Rattle.opmsg.proofs.Front.{read_front}
 use Rattle.opmsg.proofs.Limits.{max_length_small}
 use Rattle.message.specs.Message.{checksum, message, whole_length}
-use Rattle.message.proofs.Message.{Headed, Seen, message_whole, message_word, message_seen}
+use Rattle.message.proofs.Message.{Seen, message_whole, message_word, message_seen}
 use Rattle.message.proofs.Whole.{word_bytes_at, whole}
 use Rattle.opmsg.specs.declared.Edition.{Edition}
 use Rattle.opmsg.specs.declared.View.{View}

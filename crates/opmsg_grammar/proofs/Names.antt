@@ -97,6 +97,7 @@ read_elements (Elements.more {ys} (Element.element {t} {name} {xs} z value) es) 
 -- the names of a document are read
 pub names_read : (k : ℕ) (ds : List ℕ) (n : ℕ) (d : Document k ds n) → n ≤ max_elements → top (document_names k ds n d) ≡ names_of (take (length ds - 5) (drop 4 ds))
 unfolding document_names
+names_read zero ds n d h = elim d [ ]
 names_read (suc k) ds n (Document.document {xs} es small) h =
     rw (inner_is xs) (read_elements es h (rw (inner_is xs) at (inner_filled (Document.document es small) h)))
 
@@ -166,6 +167,7 @@ module _ (k : ℕ) (alike : Alike k) where
 
 leads_document : (k : ℕ) → Alike k
 unfolding document_names
+leads_document zero ds n d h text = elim d [ ]
 leads_document (suc k) ds n (Document.document {xs} es small) h text = rw (inner_is xs) (leads_elements k (leads_document k) es h text)
 
 -- a text leads to a name where it is found

@@ -4,7 +4,7 @@ use Prim.Native.Nat.{ℕ, ◌+◌, ◌-◌, ◌^◌, ◌≤◌, ◌<◌}
 use mathlib.Core.Bool.{Bool, true, false}
 use mathlib.Core.Path.{◌≡◌, refl, sym, ap, ◌∙◌}
 use mathlib.Core.Logic.{◌↔◌}
-use mathlib.Core.List.{List, [], ◌∷◌, ◌++◌, append-nil}
+use mathlib.Core.List.{List, [], ◌∷◌, ◌++◌}
 use native.Mathlib.Omega.{arith}
 use native.Mathlib.Nat.{zero-add}
 use lib.ListN.{length, take, drop, length-take, length-drop, take-append-drop}
@@ -34,14 +34,14 @@ use Rattle.message.specs.Editions.{Accepts}
 use Rattle.message.proofs.Message.{Seen}
 use Rattle.message.proofs.Tiles.{Tiled, all_tiled}
 use Rattle.message.proofs.Chunks.{before_body}
-use Rattle.opmsg_grammar.specs.Grammar.{◌among◌, Differ, Names, top, Leads, Sections, bodies, identifiers, listed, Message}
+use Rattle.opmsg_grammar.specs.Grammar.{◌among◌, Differ, Names, top, Leads, bodies, identifiers, listed, Message}
 use Rattle.opmsg_grammar.specs.Reading.{Begins, ReadsMessages}
 use Rattle.opmsg_grammar.proofs.Differ.{differ_names, differ_all, differ_behind}
 use Rattle.opmsg_grammar.proofs.Names.{inner_filled, names_read, names_lead}
 use Rattle.opmsg_grammar.proofs.Sound.{SectionsAre, sections_are}
 use Rattle.opmsg_grammar.proofs.Complete.{sections_complete}
 use Rattle.opmsg_grammar.proofs.Trees.{BodyIs, listed_sequences, listed_identifiers, body_is, bodies_one, one_listed}
-use Rattle.opmsg_grammar.proofs.Form.{header_of, form, made_whole, read_form, made_length, made_words, made_seen, made_front}
+use Rattle.opmsg_grammar.proofs.Form.{header_of, form, made_whole, read_form, made_words, made_seen, made_front}
 use Rattle.opmsg.specs.declared.Edition.{Edition}
 use Rattle.opmsg.specs.declared.Section as Shown
 use Rattle.opmsg.specs.declared.View.{View}

@@ -5,13 +5,12 @@ use mathlib.Core.Bool.{true}
 use mathlib.Core.Path.{◌≡◌, refl, sym, ap, ◌∙◌}
 use mathlib.Core.List.{List, [], ◌∷◌, ◌++◌, append_assoc, append-nil}
 use native.Mathlib.Omega.{arith}
-use lib.ListN.{length, get_or, take, drop, length-append, length-take, length-drop, take-append-drop}
+use lib.ListN.{length, get_or, take, drop, length-drop, take-append-drop}
 use native.Mathlib.Nat.{zero-add}
 use native.Mathlib.Numerals.{one-add, add-one}
 use lib.Seq.{take-take, length-take-le, drop-cons}
-use lib.Dec.{T}
 use Rattle.wire.specs.Outcome.{ok}
-use Rattle.wire.specs.Bytes.{Bytes, le32, until_zero}
+use Rattle.wire.specs.Bytes.{Bytes, le32}
 use Rattle.wire.specs.Walk.{Step, walk}
 use Rattle.wire.proofs.Outcome.{ok_same, bound}
 use Rattle.wire.proofs.Bytes.{bytes_drop, bytes_take}

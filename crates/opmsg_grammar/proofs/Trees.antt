@@ -1,11 +1,10 @@
 -- What a tree of sections tells, and what reading finds of the sections that it lists: the identifiers, the body, and how many there are of each.
 -- Assumes nothing.
 use Prim.Native.Nat.{ℕ, suc, ◌+◌, ◌-◌, ◌≤◌, ◌<◌}
-use mathlib.Core.Path.{◌≡◌, refl, sym, ap, ◌∙◌}
-use mathlib.Core.List.{List, [], ◌∷◌, ◌++◌, append_assoc}
+use mathlib.Core.Path.{◌≡◌, refl, ap, ◌∙◌}
+use mathlib.Core.List.{List, [], ◌∷◌, ◌++◌}
 use native.Mathlib.Omega.{arith}
-use native.Mathlib.Numerals.{one-add}
-use lib.ListN.{length, take, drop, length-append}
+use lib.ListN.{length, take, drop}
 use lib.Seq.{take_at}
 use Rattle.wire.specs.Bytes.{le32}
 use Rattle.bson.specs.Document.{max_levels}
@@ -35,6 +34,11 @@ module _ {e : Edition} where
   listed_sequences at (Sections.more {xs} (Section.body d) ss) = listed_sequences (at + length xs) ss
   listed_sequences at (Sections.more {xs} (Section.sequence text k some z u ds) ss) = ap suc (listed_sequences (at + length xs) ss)
 
+  -- the identifiers behind the same bytes
+  behind_listed : {xs us vs : List ℕ} {n a b : ℕ} (tree : Sections e xs n) {ts : List (List ℕ)} → us ≡ vs → a ≡ b
+      → texts (Read.identifiers vs (listed b tree)) ≡ ts → texts (Read.identifiers us (listed a tree)) ≡ ts
+  behind_listed tree i j h = rw (i, j) h
+
   -- the identifiers behind the bytes ys
   pub listed_identifiers : {xs : List ℕ} {n : ℕ} (ys : List ℕ) (tree : Sections e xs n)
       → texts (Read.identifiers (ys ++ xs) (listed (20 + length ys) tree)) ≡ identifiers tree
@@ -42,11 +46,11 @@ module _ {e : Edition} where
   listed_identifiers ys Sections.none = refl
   listed_identifiers ys (Sections.more {xs} {ys = zs} (Section.body d) ss) =
       let n = next_bytes ys xs zs (length xs) refl in
-      rw (n.0, n.1) (listed_identifiers (ys ++ xs) ss)
+      behind_listed ss n.0 n.1 (listed_identifiers (ys ++ xs) ss)
   listed_identifiers ys (Sections.more {xs} {ys = zs} (Section.sequence {xs = documents} text k some z u ds) ss) =
       let n = next_bytes ys xs zs (length xs) refl in
       let own = chunk_part ys xs zs 5 (length text) (omega (arith, sequence_length text documents)) ∙ sequence_text text documents in
-      rw own (ap (λ (l : List (List ℕ)). text ∷ l) (rw (n.0, n.1) (listed_identifiers (ys ++ xs) ss)))
+      rw own (ap (λ (l : List (List ℕ)). text ∷ l) (behind_listed ss n.0 n.1 (listed_identifiers (ys ++ xs) ss)))
 
 -- ---- the body
 

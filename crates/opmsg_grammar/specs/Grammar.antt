@@ -2,7 +2,7 @@
 -- Documents are those of the grammar of BSON. As there, a type says of a run of bytes what it is, and what proves it is the tree: `Sections e xs elements`
 -- says that xs are the bytes of sections that hold so many elements, over all levels of all their documents.
 -- Assumes nothing: these are definitions.
-use Rattle.std.specs.Prelude.{ℕ, suc, ◌+◌, ◌^◌, ◌≤◌, ◌<◌, true, false, ◌≡◌, length, T, eqb}
+use Rattle.std.specs.Prelude.{ℕ, zero, suc, ◌+◌, ◌^◌, ◌≤◌, ◌<◌, true, false, ◌≡◌, length, T, eqb}
 use mathlib.Core.List.{List, [], ◌∷◌, ◌++◌, Memᴰ}
 use Rattle.wire.specs.Bytes.{le32, signed}
 use Rattle.utf8.specs.Utf8.{Utf8}
@@ -84,6 +84,7 @@ module _ {k : ℕ} (document : (xs : List ℕ) (n : ℕ) → Document k xs n →
   element_names (Elements.more (Element.element text value) es) = name (text_of text) (names_inside value) (element_names es)
 
 unfoldable pub document_names : (k : ℕ) (xs : List ℕ) (n : ℕ) → Document k xs n → Names
+document_names zero xs n d = elim d [ ]
 document_names (suc k) xs n (Document.document es h) = element_names (document_names k) es
 
 -- the names themselves, not those inside them
