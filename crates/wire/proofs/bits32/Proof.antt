@@ -35,7 +35,7 @@ pub bits32_spec : {M : Type 1} → statement M
 bits32_spec =
     tie.close
     (tie.spec
-    (λ c. let r = below_zero c.before.args.x c.before.ranges.x c.if1.true in rw r.2 (tt, omega arith))
-    (λ c. let r = not_below c.before.args.x c.before.ranges.x c.if1.false in rw r.2 (tt, omega arith))
-    (λ c. let r = below_zero c.before.args.x c.before.ranges.x c.if1.true in rw r.2 r.3)
-    (λ c. let r = not_below c.before.args.x c.before.ranges.x c.if1.false in rw r.2 r.3))
+    (λ c. let r = below_zero c.before.args.x c.before.ranges.x c.if-x-lt0.true in rw r.2 (tt, omega arith))
+    (λ c. let r = not_below c.before.args.x c.before.ranges.x c.if-x-lt0.false in rw r.2 (tt, omega arith))
+    (λ c. let r = below_zero c.before.args.x c.before.ranges.x c.if-x-lt0.true in rw r.2 r.3)
+    (λ c. let r = not_below c.before.args.x c.before.ranges.x c.if-x-lt0.false in rw r.2 r.3))

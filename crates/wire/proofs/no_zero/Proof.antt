@@ -7,7 +7,7 @@ use Rattle.wire.proofs.Bytes.{past_byte}
 use Rattle.wire.proofs.no_zero.Statement.{statement}
 use Rattle.wire.proofs.no_zero.Tie as tie
 
-all : tie.Need-returns-4
+all : tie.Need-returns
 all c e =
     let third = c.before in
     let second = third.before.before in
@@ -16,9 +16,9 @@ all c e =
     let s = start.args.s.now in
     omega (
       arith,
-      past_byte s 0 (omega (arith, start.requires)) (ne_eqb _ _ first.if1.false),
-      past_byte s 1 (omega (arith, start.requires)) (ne_eqb _ _ second.if2.false),
-      past_byte s 2 (omega (arith, start.requires)) (ne_eqb _ _ third.if3.false),
+      past_byte s 0 (omega (arith, start.requires)) (ne_eqb _ _ first.if-s-eq0.false),
+      past_byte s 1 (omega (arith, start.requires)) (ne_eqb _ _ second.if-s-eq0-2.false),
+      past_byte s 2 (omega (arith, start.requires)) (ne_eqb _ _ third.if-s-eq0-3.false),
       past_byte s 3 (omega (arith, start.requires)) (not-true _ e),
     )
 

@@ -10,17 +10,17 @@ use Rattle.wire.proofs.Parts.{rest_part}
 use Rattle.wire.proofs.stretch.Statement.{statement}
 use Rattle.wire.proofs.stretch.Tie as tie
 
-returns : tie.Need-returns
+returns : tie.Need-returns-then-s-place
 returns c =
-    let a = c.before.before.args in
-    rw (drop_of_length-le a.s.now c.before.if1.true) (sym (take-nil a.n))
+    let a = c.before.args in
+    rw (drop_of_length-le a.s.now c.if-s-place.true) (sym (take-nil a.n))
 
-returns-2 : tie.Need-returns-2
+returns-2 : tie.Need-returns-then-s-place-2
 returns-2 c =
     let a = c.before.before.before.args in
-    rw (rest_part a.place a.s.now) (sym (take_all a.n (drop a.place a.s.now) (rw (length-drop a.place a.s.now) c.before.if2.true)))
+    rw (rest_part a.place a.s.now) (sym (take_all a.n (drop a.place a.s.now) (rw (length-drop a.place a.s.now) c.before.if-s-place-2.true)))
 
-returns-3 : tie.Need-returns-3
+returns-3 : tie.Need-returns
 returns-3 c =
     let a = c.before.before.before.args in
     let all : a.place + a.n - a.place ≡ a.n = omega arith in

@@ -13,10 +13,10 @@ use Rattle.wire.proofs.Parts.{rest_part}
 use Rattle.wire.proofs.until_far_zero.Statement.{statement}
 use Rattle.wire.proofs.until_far_zero.Tie as tie
 
-abbrev invariant-loop : tie.invariant-loop
+abbrev invariant-loop : tie.invariant-loop-i
 invariant-loop s i₀ i = (i ≤ length s) × (until_zero s ≡ i + until_zero (drop i s))
 
-abbrev decreases-loop : tie.decreases-loop
+abbrev decreases-loop : tie.decreases-loop-i
 decreases-loop s i₀ i = length s - i
 
 -- what is found of the part `&s[i..]`
@@ -27,16 +27,16 @@ module _ (s : List ℕ) (i : ℕ) (inv : until_zero s ≡ i + until_zero (drop i
   rest : (r : ℕ) → r ≡ until_zero (take (length s - i) (drop i s)) → i + r ≡ until_zero s
   rest r e = omega (arith, rw rest_part at e)
 
-loop-again : tie.Need-loop-preserved invariant-loop decreases-loop
+loop-again : tie.Need-loop-i-preserved invariant-loop decreases-loop
 loop-again c =
     let f = c.before in
     let l = f.before.before.before in
-    (omega arith, four_more l.before.before.args.s.now l.loop.i l.loop.invariant.1 (f.no_zero.ensures c.if1.true))
+    (omega arith, four_more l.before.before.args.s.now l.loop-i.i l.loop-i.invariant.1 (f.no_zero.ensures c.if-no_zero.true))
 
 all : tie.Need-returns invariant-loop decreases-loop
 all c =
     let l = c.before.before.before in
-    rest l.before.before.args.s.now l.loop.i l.loop.invariant.1 _ c.until-zero.ensures
+    rest l.before.before.args.s.now l.loop-i.i l.loop-i.invariant.1 _ c.until_zero.ensures
 
 pub until_far_zero_spec : {M : Type 1} → statement M
 until_far_zero_spec =
