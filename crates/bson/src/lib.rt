@@ -1,4 +1,6 @@
 // BSON, checked for structure at all levels.
+#![tactic(auto)]
+
 mod documents;
 
 ghost use Rattle.std.specs.Prelude.{◌≡◌};

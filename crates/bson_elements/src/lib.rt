@@ -1,4 +1,6 @@
 // Elements, but for the documents in them.
+#![tactic(auto)]
+
 ghost use Rattle.std.specs.Prelude.{◌≡◌, ℕ, ◌+◌, ◌-◌, ◌^◌, ◌<◌, ◌≤◌, length};
 ghost use Rattle.bson_values.specs.Inner.{shape, ShapeWithin};
 ghost use Rattle.bson_elements.specs.Element.{head};

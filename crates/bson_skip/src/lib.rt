@@ -1,4 +1,6 @@
 // Elements that were read, passed over.
+#![tactic(auto)]
+
 ghost use Rattle.std.specs.Prelude.{◌≡◌, ℕ, ◌<◌, ◌≤◌, length, drop};
 ghost use Rattle.wire.specs.Bytes.{until_zero};
 ghost use Rattle.wire.specs.Outcome.{ok};

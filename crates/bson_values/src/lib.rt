@@ -1,4 +1,6 @@
 // The element table: what stands after an element's name.
+#![tactic(auto)]
+
 ghost use Rattle.std.specs.Prelude.{◌≡◌, ℕ, ◌+◌, ◌-◌, ◌^◌, ◌<◌, ◌≤◌, length};
 ghost use Rattle.bson_values.specs.Value.{sized, boolean, cstring, string, binary, regex, pointer, code_with_scope, bytes, table, rule_in};
 ghost use Rattle.bson_values.specs.Inner.{extent, ExtentWithin, shape, ShapeWithin, rule_of, rule_found, Unlisted, behind, miscounted};

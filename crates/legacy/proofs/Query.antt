@@ -291,24 +291,24 @@ module _ (p : QueryParts) (w : Written LegacyView) (f : QueryFits p) (h : QueryW
   given_laid = query_laid given p.name p.query p.selector _ _ _ given_made.rest
 
   flags_shown : word_at 16 given ≡ p.flags
-  flags_shown = word_there 16 p.flags given _ f.flags given_laid.from-flags
+  flags_shown = word_there 16 p.flags given _ f.flags given_laid.from_flags
 
   skip_shown : signed (word_at start given) ≡ p.number_to_skip
-  skip_shown = signed_there start p.number_to_skip given _ f.number_to_skip given_laid.from-skip
+  skip_shown = signed_there start p.number_to_skip given _ f.number_to_skip given_laid.from_skip
 
   return_shown : signed (word_at (start + 4) given) ≡ p.number_to_return
-  return_shown = signed_there (start + 4) p.number_to_return given _ f.number_to_return given_laid.from-return
+  return_shown = signed_there (start + 4) p.number_to_return given _ f.number_to_return given_laid.from_return
 
   -- the sizes that reading finds are those of what was given
   name_size : (n : ℕ) → NameRead (drop 20 given) n → n ≡ length p.name
-  name_size n k = sym k.is ∙ ap until_zero given_laid.from-name ∙ until_behind p.name _ h.name
+  name_size n k = sym k.is ∙ ap until_zero given_laid.from_name ∙ until_behind p.name _ h.name
 
   query_size : (n : ℕ) → Framed (drop (start + 8) given) n → n ≡ length p.query
-  query_size n k = stated_size p.query p.selector n h.query (rw given_laid.from-query at k)
+  query_size n k = stated_size p.query p.selector n h.query (rw given_laid.from_query at k)
 
   selector_size : (n : ℕ) → Chosen (start + 8 + length p.query) given n → n ≡ length p.selector
-  selector_size n (Chosen.none e z) = omega (arith, ap length given_laid.from-selector, length-drop (start + 8 + length p.query) given)
-  selector_size n (Chosen.some k) = go h.selector (rw given_laid.from-selector at k)
+  selector_size n (Chosen.none e z) = omega (arith, ap length given_laid.from_selector, length-drop (start + 8 + length p.query) given)
+  selector_size n (Chosen.some k) = go h.selector (rw given_laid.from_selector at k)
     where
       go : Lent p.selector → Framed p.selector n → n ≡ length p.selector
       go (none e) k = absurd (omega (arith, k.low, k.fits))
@@ -320,9 +320,9 @@ module _ (p : QueryParts) (w : Written LegacyView) (f : QueryFits p) (h : QueryW
       × (signed (word_at (20 + a + 1) given) ≡ p.number_to_skip) × (signed (word_at (20 + a + 1 + 4) given) ≡ p.number_to_return)
   parts_of a b c i j k =
       rw (i, j, k) (
-        cut_range given 20 (length p.name) ∙ ap (take (length p.name)) given_laid.from-name ∙ take_at p.name _ (length p.name) refl,
-        cut_range given (start + 8) (length p.query) ∙ ap (take (length p.query)) given_laid.from-query ∙ take_at p.query _ (length p.query) refl,
-        cut_range given (start + 8 + length p.query) (length p.selector) ∙ ap (take (length p.selector)) given_laid.from-selector ∙ take-length p.selector,
+        cut_range given 20 (length p.name) ∙ ap (take (length p.name)) given_laid.from_name ∙ take_at p.name _ (length p.name) refl,
+        cut_range given (start + 8) (length p.query) ∙ ap (take (length p.query)) given_laid.from_query ∙ take_at p.query _ (length p.query) refl,
+        cut_range given (start + 8 + length p.query) (length p.selector) ∙ ap (take (length p.selector)) given_laid.from_selector ∙ take-length p.selector,
         skip_shown,
         return_shown,
       )

@@ -183,20 +183,20 @@ module _ (p : ReplyParts) (w : Written LegacyView) (f : ReplyFits p) (h : ReplyW
   given_laid = reply_laid given p.documents _ _ _ _ given_made.rest
 
   flags_shown : word_at 16 given ≡ p.response_flags
-  flags_shown = word_there 16 p.response_flags given _ f.response_flags given_laid.from-flags
+  flags_shown = word_there 16 p.response_flags given _ f.response_flags given_laid.from_flags
 
   cursor_shown : signed64 (long_at 20 given) ≡ p.cursor_id
-  cursor_shown = ap signed64 (long_there 20 (bits64 p.cursor_id) given _ (bits64_lt p.cursor_id f.cursor_id) given_laid.from-cursor) ∙ signed64_bits64 p.cursor_id f.cursor_id
+  cursor_shown = ap signed64 (long_there 20 (bits64 p.cursor_id) given _ (bits64_lt p.cursor_id f.cursor_id) given_laid.from_cursor) ∙ signed64_bits64 p.cursor_id f.cursor_id
 
   starting_shown : signed (word_at 28 given) ≡ p.starting_from
-  starting_shown = signed_there 28 p.starting_from given _ f.starting_from given_laid.from-starting
+  starting_shown = signed_there 28 p.starting_from given _ f.starting_from given_laid.from_starting
 
   returned_shown : signed (word_at 32 given) ≡ p.number_returned
-  returned_shown = signed_there 32 p.number_returned given _ f.number_returned given_laid.from-number
+  returned_shown = signed_there 32 p.number_returned given _ f.number_returned given_laid.from_number
 
   documents_shown : cut given (rest 36 given) ≡ p.documents
   unfolding cut rest
-  documents_shown = rest_part 36 given ∙ given_laid.from-documents
+  documents_shown = rest_part 36 given ∙ given_laid.from_documents
 
   -- what reading finds
   same_parts : (v : LegacyView) (r : OpReply) {n : ℕ} → ReplyRead given r n → v.request_id ≡ signed (word_at 4 given) → v.response_to ≡ signed (word_at 8 given) → reply_parts given v r ≡ p

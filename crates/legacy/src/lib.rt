@@ -1,4 +1,6 @@
 // The opcodes before OP_MSG that open a connection, OP_QUERY and OP_REPLY: their layouts, reading and writing as definitions.
+#![tactic(auto)]
+
 use opmsg::Range;
 
 #[derive(Drop)]

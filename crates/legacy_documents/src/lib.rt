@@ -1,4 +1,6 @@
 // Documents of the older opcodes, read where they lie: by the reader in a message, by the writer in what it is lent.
+#![tactic(auto)]
+
 ghost use mathlib.Core.Path.{◌≡◌};
 ghost use Prim.Native.Nat.{◌+◌, ◌^◌, ◌<◌};
 ghost use lib.ListN.{length};

@@ -80,15 +80,15 @@ query_complete m {xs} {n} {q} g e l =
     let laid : QueryLaid m g.name g.query g.selector g.flags g.skip g.back = query_laid m g.name g.query g.selector g.flags g.skip g.back (e ∙ form) in
     let some = document_long g.document in
     let long = length-append g.query g.selector in
-    let left = ap length laid.from-query in
+    let left = ap length laid.from_query in
     let size = length-drop (at + 8) m in
-    go_on _ (int32_here 16 m _ g.flags g.words.0 laid.from-flags)
-    ∙ go_on _ (name_here 20 m _ g.name g.text.0 g.text.1 g.text.2 laid.from-name)
-    ∙ go_on _ (int32_here at m _ g.skip (omega (arith, g.words.1)) laid.from-skip)
+    go_on _ (int32_here 16 m _ g.flags g.words.0 laid.from_flags)
+    ∙ go_on _ (name_here 20 m _ g.name g.text.0 g.text.1 g.text.2 laid.from_name)
+    ∙ go_on _ (int32_here at m _ g.skip (omega (arith, g.words.1)) laid.from_skip)
     ∙ pass 26 at _ (not_under 0 g.skip (omega arith) g.words.1)
-    ∙ go_on _ (int32_here (at + 4) m _ g.back g.words.2 laid.from-return)
-    ∙ go_on _ (rw laid.from-query (complete (at + 8) g.query g.selector 0 g.asked g.document (omega (arith, g.counted))))
-    ∙ go_on _ (optional_here (at + 8 + length g.query) m (0 + g.asked) g.optional (omega arith) laid.from-selector (omega (arith, g.counted)))
+    ∙ go_on _ (int32_here (at + 4) m _ g.back g.words.2 laid.from_return)
+    ∙ go_on _ (rw laid.from_query (complete (at + 8) g.query g.selector 0 g.asked g.document (omega (arith, g.counted))))
+    ∙ go_on _ (optional_here (at + 8 + length g.query) m (0 + g.asked) g.optional (omega arith) laid.from_selector (omega (arith, g.counted)))
     ∙ pass 15 _ _ (le-ltb _ (length m) (omega arith))
     ∙ rw (g.shows, g.counted, zero-add g.asked, signed_pos g.skip g.words.1)
 
@@ -102,17 +102,17 @@ unfolding Read.reply documents rest le64 le32
 reply_complete m {xs} {n} {r} g e small l =
     let laid : ReplyLaid m g.documents g.flags g.cursor g.starting g.number = reply_laid m g.documents g.flags g.cursor g.starting g.number (e ∙ g.bytes) in
     let size = length-drop 36 m in
-    let left = ap length laid.from-documents in
-    let least = ap length laid.from-number in
+    let left = ap length laid.from_documents in
+    let least = ap length laid.from_number in
     let whole : length m - 36 ≡ length g.documents = omega arith in
     let few : g.number < 2 ^ 31 = omega (arith, documents_many g.tree) in
     let same : not (eqb g.number (0 + g.number)) ≡ false = rw (eq-eqb g.number (0 + g.number) (omega arith)) in
     let walked : documents 36 m ≡ ok (record { documents = 0 + g.number; elements = 0 + n }) =
-    rw laid.from-documents (documents_complete g.tree (length m) 36 0 0 (omega arith) (omega arith)) in
-    go_on _ (int32_here 16 m _ g.flags g.words.0 laid.from-flags)
-    ∙ go_on _ (int64_here 20 m _ g.cursor g.words.1 laid.from-cursor)
-    ∙ go_on _ (int32_here 28 m _ g.starting g.words.2 laid.from-starting)
-    ∙ go_on _ (int32_here 32 m _ g.number (omega arith) laid.from-number)
+    rw laid.from_documents (documents_complete g.tree (length m) 36 0 0 (omega arith) (omega arith)) in
+    go_on _ (int32_here 16 m _ g.flags g.words.0 laid.from_flags)
+    ∙ go_on _ (int64_here 20 m _ g.cursor g.words.1 laid.from_cursor)
+    ∙ go_on _ (int32_here 28 m _ g.starting g.words.2 laid.from_starting)
+    ∙ go_on _ (int32_here 32 m _ g.number (omega arith) laid.from_number)
     ∙ go_on _ walked
     ∙ pass 26 32 _ same
     ∙ rw (g.shows, whole, signed_pos g.number few, zero-add g.number, zero-add n)

@@ -1,5 +1,7 @@
 // Reading OP_QUERY and OP_REPLY: one call for both. Each function reads on from where the one before it stopped, in a message that
 // starts at place 0 and ends where the slice does.
+#![tactic(auto)]
+
 ghost use mathlib.Core.Path.{◌≡◌};
 ghost use Prim.Native.Nat.{◌+◌, ◌^◌, ◌<◌, ◌≤◌};
 ghost use lib.ListN.{length};

@@ -1,4 +1,6 @@
 // The listing of a stream of messages: what comes next by the bytes at hand, and what a turn makes of them.
+#![tactic(auto)]
+
 pub mod stream;
 pub mod turns;
 

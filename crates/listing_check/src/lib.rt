@@ -1,4 +1,6 @@
 // A stored listing that comes in pieces, read line by line.
+#![tactic(auto)]
+
 ghost use Rattle.std.specs.Prelude.{◌≡◌, ◌+◌, ◌^◌, ◌<◌, ◌≤◌, length};
 ghost use Rattle.listing_fields.specs.Numbers.{until_newline};
 ghost use Rattle.listing_stored.specs.declared.Stored.TheVariants.{Refused};

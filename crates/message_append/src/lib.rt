@@ -1,4 +1,6 @@
 // Appending a document sequence to a message.
+#![tactic(auto)]
+
 ghost use Rattle.std.specs.Prelude.{◌≡◌, ◌+◌, ◌^◌, ◌<◌, length};
 ghost use Rattle.opmsg.specs.Sections.{sequence_at};
 ghost use Rattle.opmsg.specs.View.{sequence_count, answer};

@@ -165,14 +165,14 @@ module _ (e : Edition) (s : List ℕ) (v : View) (h : read e s ≡ ok v) where
           let k = length-append xs ys in
           rw (seen.end, seen.sections)
           (walk_append (section_at e) (section_steady e) (sections_end s) (1 + size_of name documents) (20 + length more) 20 xs ys nothing (omega (arith, stated_end s r.sound)) (omega arith) (omega arith) r.listed
-          ∙ section_walked name documents e at r.sections a.known (omega (arith, a.few, shows.sequences-is)) a.some a.ended (omega (arith, size_small, max_length_small)))
+          ∙ section_walked name documents e at r.sections a.known (omega (arith, a.few, shows.sequences_is)) a.some a.ended (omega (arith, size_small, max_length_small)))
 
       new_view : (run : Run) → view_of e new (with_section name documents at r.sections run) ≡ grown v at (length name) (length documents) run.documents run.elements
       unfolding view_of grown
       new_view run =
           let qs = r.sections.sections in
           let q = sequence_at at (length name) (length documents) run.documents in
-          let room : length qs < max_sections = unfold max_sequences max_sections in omega (arith, a.few, shows.used-is) in
+          let room : length qs < max_sections = unfold max_sequences max_sections in omega (arith, a.few, shows.used_is) in
           rw (
             appended_stated s r.sound v.flags more (view_flags_lt e s v h) a.limit,
             ← whole_is,
@@ -183,8 +183,8 @@ module _ (e : Edition) (s : List ℕ) (v : View) (h : read e s ≡ ok v) where
             ids.0,
             ids.1,
             ← padded_set qs q room,
-            shows.entries-is,
-            shows.used-is,
+            shows.entries_is,
+            shows.used_is,
           )
 
       read_new : read e new

@@ -1,4 +1,6 @@
 // The bytes of a message with one section more, stored once all is decided.
+#![tactic(auto)]
+
 ghost use Rattle.std.specs.Prelude.{◌++◌, ◌≡◌, ◌+◌, ◌-◌, ◌^◌, ◌<◌, ◌≤◌, length, take, drop};
 ghost use Rattle.wire.specs.Bytes.{put};
 ghost use Rattle.opmsg.specs.Layout.{checksum_size};

@@ -1,4 +1,6 @@
 // Forwarding a message.
+#![tactic(auto)]
+
 ghost use Rattle.std.specs.Prelude.{◌≡◌, length};
 ghost use Rattle.opmsg.specs.View.{answer};
 ghost use Rattle.message.specs.Message.{viewed, output};

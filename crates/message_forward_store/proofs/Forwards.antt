@@ -31,7 +31,7 @@ module _ (s : List ℕ) (size flags : ℕ) (m : Shown s size flags) where
   shown_size : size ≡ 20 + length (section_bytes s) + checksum_size flags
   unfolding whole_length
   shown_size =
-      rw (m.size_is, m.flags-is)
+      rw (m.size_is, m.flags_is)
       at (view_length m.edition s m.view m.reads ∙ sym (header_word s (reads m.reads).sound 0 (omega arith)) ∙ (form m.edition s m.view m.reads).stated)
 
   -- where its sections end, by what is shown
@@ -69,12 +69,12 @@ module _ (s : List ℕ) (size flags : ℕ) (m : Shown s size flags) where
       twenty = length-append (take 16 s) (le32 flags) ∙ omega (arith, sixteen)
 
       long : length (header ++ xs) ≡ size - k
-      long = length-append header xs ∙ omega (arith, twenty, shown_size, laid.k-is)
+      long = length-append header xs ∙ omega (arith, twenty, shown_size, laid.k_is)
 
       stored : Stored (header ++ xs) out c
       unfolding le32
       stored =
-          let bytes : take (size - k - 20) (drop 20 s) ≡ xs = unfold section_bytes in rw (laid.k-is, shown_end) in
+          let bytes : take (size - k - 20) (drop 20 s) ≡ xs = unfold section_bytes in rw (laid.k_is, shown_end) in
           let s1 : Stored (take 16 s) out laid.headed = laid.first ∙ stores [] (take 16 s) out out 0 refl (omega (arith, sixteen, shown_size)) (stores_none out) in
           let s2 : Stored header out laid.flagged = laid.second ∙ stores (take 16 s) (le32 flags) out laid.headed 16 sixteen (omega (arith, sixteen, shown_size)) s1 in
           laid.third ∙ rw bytes (stores header xs out laid.flagged 20 twenty (omega (arith, twenty, shown_size)) s2)
@@ -83,11 +83,11 @@ module _ (s : List ℕ) (size flags : ℕ) (m : Shown s size flags) where
       forward_stands = record {
         size = size;
         shown = m;
-        end_is = ap (λ (j : ℕ). size - j) laid.k-is;
-        room = omega (arith, shown_size, laid.k-is, stored_length (header ++ xs) out c (omega (arith, long)) stored);
+        end_is = ap (λ (j : ℕ). size - j) laid.k_is;
+        room = omega (arith, shown_size, laid.k_is, stored_length (header ++ xs) out c (omega (arith, long)) stored);
         stands = ap (take (size - k)) stored ∙ take_at (header ++ xs) _ (size - k) long ∙ append_assoc (take 16 s) (le32 flags) xs;
       }
 
       pub forward_stores : put (size - k) (checksum flags (take (size - k) c)) c ≡ overwritten (message (take 16 s) flags xs) out
       unfolding message
-      forward_stores = rw (append_assoc (take 16 s) (le32 flags) xs) at (sealed (header ++ xs) out c flags (size - k) long (omega (arith, shown_size, laid.k-is)) stored)
+      forward_stores = rw (append_assoc (take 16 s) (le32 flags) xs) at (sealed (header ++ xs) out c flags (size - k) long (omega (arith, shown_size, laid.k_is)) stored)

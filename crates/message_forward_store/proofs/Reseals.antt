@@ -31,10 +31,10 @@ module _ (s out : List ℕ) (end flags : ℕ) (m : Reflagged s out end flags) wh
       let shown = m.shown in
       let e = shown.edition in
       let v = shown.view in
-      let before : checksummed (flag_word s) ≡ true = sym (view_bit0 e s v shown.reads) ∙ ap checksummed shown.flags-is ∙ set in
+      let before : checksummed (flag_word s) ≡ true = sym (view_bit0 e s v shown.reads) ∙ ap checksummed shown.flags_is ∙ set in
       let four = size_with flags set in
       let long : message_length s ≡ m.size = sym (view_length e s v shown.reads) ∙ shown.size_is in
       let place : message_length s - 4 ≡ end = omega (arith, four, long, m.end_is) in
       let following : message_length s - 24 ≡ end - 20 = omega (arith, four, long, m.end_is) in
-      let new : new_checksum s v ≡ sum = rw (shown.flags-is, place, following) (sym sum_is_lem) in
-      rw (m.stands, ← shown.flags-is, ← new) (new_checksum_lem e s v b shown.reads before)
+      let new : new_checksum s v ≡ sum = rw (shown.flags_is, place, following) (sym sum_is_lem) in
+      rw (m.stands, ← shown.flags_is, ← new) (new_checksum_lem e s v b shown.reads before)

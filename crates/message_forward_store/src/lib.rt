@@ -1,4 +1,6 @@
 // The bytes of a message that is forwarded, stored from left to right once all is decided.
+#![tactic(auto)]
+
 ghost use Rattle.std.specs.Prelude.{◌≡◌, ◌-◌, ◌≤◌, length, take};
 ghost use Rattle.wire.specs.Bytes.{word_at, put};
 ghost use Rattle.crc32c_refresh.specs.Refresh.{refreshed};

@@ -119,11 +119,11 @@ pub record Ordered (e : Edition) (s : List ℕ) (v : View) (behind : ℕ) (entri
 
 module _ {e : Edition} {s : List ℕ} {v : View} {behind : ℕ} {entries : List Entry} {n : ℕ} (o : Ordered e s v behind entries n) where
   first_order : first_sections n entries ≡ reordered behind (sections_of v)
-  first_order = rw o.entries-is (first_padded (reordered behind (sections_of v)) n (order_length e s v o.bytes o.shown behind o.few ∙ sym o.n-is))
+  first_order = rw o.entries_is (first_padded (reordered behind (sections_of v)) n (order_length e s v o.bytes o.shown behind o.few ∙ sym o.n_is))
 
   pub n_small : n ≤ 17
   unfolding max_sequences
-  n_small = omega (arith, o.n-is, count_few e s v o.bytes o.shown)
+  n_small = omega (arith, o.n_is, count_few e s v o.bytes o.shown)
 
   pub header_there : 16 ≤ length s
   header_there = omega (arith, (reads o.shown).sound.least, (reads o.shown).sound.whole)

@@ -108,22 +108,22 @@ module _ (v : View) (behind : ℕ) where
       pub orders_room : count < max_sequences
       unfolding sequence_count
       orders_room =
-          omega (arith, few, o.count-is, ap length joined, length-append (o.passed ++ (Sequence a b n ∷ [])) (sequences_of (said_from v.entries (i + 1))), length-append o.passed (Sequence a b n ∷ []))
+          omega (arith, few, o.count_is, ap length joined, length-append (o.passed ++ (Sequence a b n ∷ [])) (sequences_of (said_from v.entries (i + 1))), length-append o.passed (Sequence a b n ∷ []))
 
       pub orders_sequence : Ordering v behind (i + 1) (count + 1) (set list (spot count behind) (says (said_at v.entries i)))
       orders_sequence = record {
         passed = o.passed ++ (Sequence a b n ∷ []);
         together = joined;
-        count_is = length-append o.passed (Sequence a b n ∷ []) ∙ ap (λ (m : ℕ). m + 1) o.count-is;
-        list_is = rw (o.list-is, e, ← o.count-is) (spotted behind o.passed (Sequence a b n) (rw o.count-is orders_room));
+        count_is = length-append o.passed (Sequence a b n ∷ []) ∙ ap (λ (m : ℕ). m + 1) o.count_is;
+        list_is = rw (o.list_is, e, ← o.count_is) (spotted behind o.passed (Sequence a b n) (rw o.count_is orders_room));
       }
 
     pub orders_other : NoSequence (said_at v.entries i) → Ordering v behind (i + 1) count list
     orders_other h = record {
       passed = o.passed;
       together = ap (λ (qs : List Section). o.passed ++ qs) (sym (ap sequences_of next ∙ no_sequence (said_at v.entries i) (said_from v.entries (i + 1)) h)) ∙ o.together;
-      count_is = o.count-is;
-      list_is = o.list-is;
+      count_is = o.count_is;
+      list_is = o.list_is;
     }
 
   pub orders_all : (i count : ℕ) (list : List Entry) → Ordering v behind i count list → length v.entries ≤ i → behind ≤ sequence_count v
@@ -131,4 +131,4 @@ module _ (v : View) (behind : ℕ) where
   unfolding reordered sequence_count sequences_of
   orders_all i count list o l few =
       let all : o.passed ≡ sequences_of (sections_of v) = sym (append-nil o.passed) ∙ rw (said_end v.entries i l) at o.together in
-      rw (o.list-is, all) (bodied behind (sequences_of (sections_of v)) (Body (body_of (sections_of v))) few)
+      rw (o.list_is, all) (bodied behind (sequences_of (sections_of v)) (Body (body_of (sections_of v))) few)

@@ -1,4 +1,6 @@
 // Forwarding a message with its body moved behind a given number of its sequences.
+#![tactic(auto)]
+
 mod order;
 
 ghost use Rattle.std.specs.Prelude.{◌≡◌, length};

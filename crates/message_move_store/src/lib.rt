@@ -1,4 +1,6 @@
 // The bytes of a message whose sections stand in another order, stored from left to right once all is decided.
+#![tactic(auto)]
+
 ghost use mathlib.Core.List.{◌++◌, flat_map};
 ghost use Rattle.std.specs.Prelude.{◌≡◌, ◌+◌, ◌-◌, ◌≤◌, length, take};
 ghost use Rattle.opmsg.specs.Layout.{checksum_size};

@@ -1,4 +1,6 @@
 // The checksum of bytes that were stored.
+#![tactic(auto)]
+
 ghost use Rattle.std.specs.Prelude.{◌≡◌, take};
 ghost use Rattle.wire.specs.Bytes.{put};
 ghost use Rattle.message.specs.Message.{checksum};

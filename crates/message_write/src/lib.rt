@@ -1,4 +1,6 @@
 // Writing a message from its ids, flag word and body. Nothing is stored before the answer is known.
+#![tactic(auto)]
+
 ghost use Rattle.std.specs.Prelude.{◌≡◌, ◌+◌, ◌^◌, ◌<◌, ℤ, length};
 ghost use Rattle.opmsg.specs.Layout.{checksum_size};
 ghost use Rattle.opmsg.specs.View.{answer};

@@ -1,4 +1,6 @@
 // What a write decides before it stores anything. The body is read where it lies.
+#![tactic(auto)]
+
 ghost use Rattle.std.specs.Prelude.{◌≡◌};
 ghost use Rattle.bson.specs.Document.{told};
 ghost use Rattle.message_write_checks.specs.Inner.{Checked, body_examined};

@@ -1,4 +1,6 @@
 // The bytes of a message that is written, stored from left to right once all is decided.
+#![tactic(auto)]
+
 ghost use Rattle.std.specs.Prelude.{◌∷◌, ◌≡◌, ◌≤◌, length};
 ghost use Rattle.message.specs.Message.{whole_length};
 ghost use Rattle.message.specs.Write.{written};

@@ -1,4 +1,6 @@
 // Check 23: names of elements that must differ.
+#![tactic(auto)]
+
 ghost use Rattle.std.specs.Prelude.{[], true, false, ◌≡◌, ◌+◌, ◌%◌, ◌^◌, ◌<◌, length, take};
 ghost use Rattle.opmsg.specs.Names.{same_text, among, never, distinct, element_names, names_of};
 ghost use Rattle.opmsg.specs.declared.Verdict.TheVariants.{Accepted};

@@ -1,4 +1,6 @@
 // Documents back to back.
+#![tactic(auto)]
+
 ghost use Rattle.std.specs.Prelude.{◌≡◌, ℕ, ◌+◌, ◌^◌, ◌<◌, ◌≤◌, length};
 ghost use Rattle.wire.specs.Walk.{walk};
 ghost use Rattle.opmsg.specs.Sections.{next_document};

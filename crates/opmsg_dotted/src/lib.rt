@@ -1,4 +1,6 @@
 // Dotted texts: parted at its dots, a text leads from elements into the documents among them, and on to a name.
+#![tactic(auto)]
+
 ghost use Rattle.std.specs.Prelude.{true, ◌≡◌, ◌+◌, ◌<◌, ◌≤◌, length, take, drop};
 ghost use Rattle.opmsg.specs.Names.{same_text};
 ghost use Rattle.opmsg.specs.Dotted.{until_dot, elements_within, found};

@@ -1,4 +1,6 @@
 // The names of elements that were read: where they stand, where the next element starts, and which of two texts comes first.
+#![tactic(auto)]
+
 ghost use Rattle.std.specs.Prelude.{◌≡◌, ℕ, ◌+◌, ◌<◌, ◌≤◌, length, get_or, take, drop};
 ghost use Rattle.wire.specs.Bytes.{word, until_zero};
 ghost use Rattle.bson_elements.specs.Element.{element_size};

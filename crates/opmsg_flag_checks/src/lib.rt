@@ -1,4 +1,6 @@
 // Checks 7 to 9: the flag word and the checksum.
+#![tactic(auto)]
+
 ghost use Rattle.std.specs.Prelude.{◌≡◌, ◌≤◌};
 ghost use lib.ListN.{length};
 ghost use Rattle.opmsg.specs.Layout.{message_length, checksum_differs, flag_word};

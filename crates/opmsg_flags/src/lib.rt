@@ -1,4 +1,6 @@
 // Flag words.
+#![tactic(auto)]
+
 ghost use Rattle.std.specs.Prelude.{◌≡◌};
 ghost use Rattle.opmsg.specs.Flags.{kept, all_known, checksummed};
 ghost use Rattle.opmsg.specs.Layout.{checksum_size};

@@ -1,4 +1,6 @@
 // Checks 1 to 6: the header.
+#![tactic(auto)]
+
 ghost use Rattle.std.specs.Prelude.{[], ◌∷◌, ◌≡◌};
 ghost use Rattle.wire.specs.Bytes.{one_of};
 ghost use Rattle.opmsg.specs.Read.{header};

@@ -35,14 +35,14 @@ module _ {qs : List Section} {start size : ℕ} {entries : List Entry} {used seq
   sections_shown : qs ≡ first_sections used entries
   sections_shown =
       let says : Entry → Section = λ (x : Entry). x.section in
-      sym (take_at qs (nones (length qs)) used s.used-is) ∙ ap (take used) (sym (padded_shows qs)) ∙ rw s.entries-is (sym (map_take says used entries))
+      sym (take_at qs (nones (length qs)) used s.used_is) ∙ ap (take used) (sym (padded_shows qs)) ∙ rw s.entries_is (sym (map_take says used entries))
 
   identifiers_shown : identifiers xs qs ≡ first_identifiers xs entries used
   identifiers_shown = ap (identifiers xs) sections_shown
 
   -- where there is no sequence there is no identifier
   pub without_sequences : sequences ≡ 0 → first_identifiers xs entries used ≡ []
-  without_sequences z = sym identifiers_shown ∙ no_identifiers xs qs (s.sequences-is ∙ z)
+  without_sequences z = sym identifiers_shown ∙ no_identifiers xs qs (s.sequences_is ∙ z)
 
   module _ (filled : Filled (part xs (start + 4) (size - 5))) where
     short : length (part xs (start + 4) (size - 5)) ≤ size

@@ -1,4 +1,6 @@
 // Names of elements and identifiers of sequences, by what is kept of the sections.
+#![tactic(auto)]
+
 ghost use Rattle.std.specs.Prelude.{false, ◌||◌, List, ◌≡◌, ℕ, ◌+◌, ◌-◌, ◌^◌, ◌<◌, ◌≤◌};
 ghost use Rattle.opmsg.specs.Names.{among, part, texts, identifiers, names_of};
 ghost use Rattle.opmsg.specs.Dotted.{found};

@@ -1,4 +1,6 @@
 // Checks 13 and 27: a name that a zero byte ends, as an identifier or that of a collection.
+#![tactic(auto)]
+
 ghost use mathlib.Core.Path.{◌≡◌};
 ghost use Prim.Native.Nat.{◌+◌, ◌^◌, ◌<◌};
 ghost use lib.ListN.{length};

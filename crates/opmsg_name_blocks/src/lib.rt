@@ -1,4 +1,6 @@
 // Check 23 by blocks of places that are sorted by the names there.
+#![tactic(auto)]
+
 ghost use Rattle.std.specs.Prelude.{◌≡◌, ◌-◌, ◌^◌, ◌<◌, ◌≤◌, length};
 ghost use Rattle.opmsg.specs.Inner.{Filled};
 ghost use Rattle.opmsg_element_names.specs.Inner.{WithoutZero, First};

@@ -1,4 +1,6 @@
 // Check 23 by slots that a name's bytes lead to.
+#![tactic(auto)]
+
 ghost use Rattle.std.specs.Prelude.{true, false, ◌≡◌, ℕ, ◌+◌, ◌^◌, ◌<◌, ◌≤◌, length, get_or};
 ghost use Rattle.opmsg.specs.Inner.{Filled};
 ghost use Rattle.opmsg_element_names.specs.Inner.{WithoutZero, text_at};

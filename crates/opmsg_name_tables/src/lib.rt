@@ -1,5 +1,7 @@
 // Check 23 by tables of places, where the marks of the names do not settle it: slots that a name leads to, and where these are
 // crowded, blocks of places sorted by the names there.
+#![tactic(auto)]
+
 ghost use Rattle.std.specs.Prelude.{[], ◌≡◌, ◌+◌, ◌^◌, ◌<◌, length};
 ghost use Rattle.opmsg.specs.Names.{never, distinct, element_names};
 ghost use Rattle.opmsg.specs.Inner.{judged, Filled};

@@ -1,4 +1,6 @@
 // Checks 22 to 24: names and identifiers that must differ.
+#![tactic(auto)]
+
 ghost use Rattle.std.specs.Prelude.{false, List, ◌≡◌, ◌+◌, ◌-◌, ◌^◌, ◌<◌, ◌≤◌};
 ghost use Rattle.opmsg.specs.Names.{among, distinct, part, identifiers, names_of};
 ghost use Rattle.opmsg.specs.Dotted.{found};

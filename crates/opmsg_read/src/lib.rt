@@ -1,4 +1,6 @@
 // OP_MSG messages: what a message shows, by the edition of the relay that reads it.
+#![tactic(auto)]
+
 ghost use Rattle.std.specs.Prelude.{◌≡◌};
 ghost use Rattle.opmsg.specs.View.{answer};
 ghost use Rattle.opmsg.specs.Read.{read};

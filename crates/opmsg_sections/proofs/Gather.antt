@@ -94,17 +94,17 @@ module _ {e : Edition} {xs : List ℕ} {i start size : ℕ} {entries : List Entr
       (is : (p : Parts) → PassedNumbers p start number elements → part_of (20 + i) p r ≡ section_at e (20 + i) (take (length xs - i) (drop i xs)) p)
       (reaches : PartWithin (take (length xs - i) (drop i xs)) r) where
     answered : part_of (20 + i) k.parts r ≡ section_at e (20 + i) (take (length xs - i) (drop i xs)) k.parts
-    answered = is k.parts (record { start_is = k.shows.start_is; number_is = k.shows.sequences-is; elements_is = k.elements-is })
+    answered = is k.parts (record { start_is = k.shows.start_is; number_is = k.shows.sequences_is; elements_is = k.elements_is })
 
     pub refuses : {n place : ℕ} → r ≡ Part.Refused n place → walk (section_at e) (length xs) 20 xs nothing ≡ refused n place
     refuses h = k.on ∙ stops (section_at e) 20 (length xs) i xs k.parts more (omega arith) k.turns k.enough (sym answered ∙ ap (part_of (20 + i) k.parts) h)
 
     -- one entry more
     more_entries : (q : Section) → used < max_sections → padded (k.parts.sections ++ (q ∷ [])) ≡ set entries used (record { section = q })
-    more_entries q room = sym (padded_set k.parts.sections q (rw k.shows.used-is room)) ∙ rw (k.shows.entries-is, k.shows.used-is)
+    more_entries q room = sym (padded_set k.parts.sections q (rw k.shows.used_is room)) ∙ rw (k.shows.entries_is, k.shows.used_is)
 
     more_used : (q : Section) → length (k.parts.sections ++ (q ∷ [])) ≡ used + 1
-    more_used q = length-append k.parts.sections (q ∷ []) ∙ ap (λ (m : ℕ). m + 1) k.shows.used-is
+    more_used q = length-append k.parts.sections (q ∷ []) ∙ ap (λ (m : ℕ). m + 1) k.shows.used_is
 
     -- a body
     module _ {n c : ℕ} (h : r ≡ Part.Body n c) where
@@ -137,7 +137,7 @@ module _ {e : Edition} {xs : List ℕ} {i start size : ℕ} {entries : List Entr
               size_is = ap (λ (r : Range). r.length) one;
               entries_is = more_entries b body_room;
               used_is = more_used b;
-              sequences_is = ap length (sequences_stay p.sections _) ∙ k.shows.sequences-is;
+              sequences_is = ap length (sequences_stay p.sections _) ∙ k.shows.sequences_is;
             };
             elements_is = refl;
             few = k.few;
@@ -154,11 +154,11 @@ module _ {e : Edition} {xs : List ℕ} {i start size : ℕ} {entries : List Entr
       sequence_read = sym answered ∙ ap (part_of (20 + i) k.parts) h
 
       few_yet : number < max_sequences
-      few_yet = rw (← k.shows.sequences-is) (room_left (section_read e (20 + i) _ k.parts _ sequence_read) a d m refl)
+      few_yet = rw (← k.shows.sequences_is) (room_left (section_read e (20 + i) _ k.parts _ sequence_read) a d m refl)
 
       pub sequence_room : used < max_sections
       unfolding max_sections max_sequences
-      sequence_room = omega (arith, k.one-body, few_yet)
+      sequence_room = omega (arith, k.one_body, few_yet)
 
       pub adds_sequence : Passing e xs (i + n) start size (set entries used (record { section = Sequence a d m })) (used + 1) (number + 1) c
       adds_sequence =
@@ -177,11 +177,11 @@ module _ {e : Edition} {xs : List ℕ} {i start size : ℕ} {entries : List Entr
               size_is = ap (λ (r : Range). r.length) same ∙ k.shows.size_is;
               entries_is = more_entries q sequence_room;
               used_is = more_used q;
-              sequences_is = sequences_more p.sections a d m ∙ ap (λ (m : ℕ). m + 1) k.shows.sequences-is;
+              sequences_is = sequences_more p.sections a d m ∙ ap (λ (m : ℕ). m + 1) k.shows.sequences_is;
             };
             elements_is = refl;
             few = omega (arith, few_yet);
-            one_body = omega (arith, k.one-body);
+            one_body = omega (arith, k.one_body);
             no_body = λ z. omega (arith, k.no_body z);
             near = omega (arith, k.near);
             filled = k.filled;
@@ -191,4 +191,4 @@ module _ {e : Edition} {xs : List ℕ} {i start size : ℕ} {entries : List Entr
   -- no more entries than a view has
   pub fits : used ≤ max_sections
   unfolding max_sections max_sequences
-  fits = omega (arith, k.one-body, k.few)
+  fits = omega (arith, k.one_body, k.few)

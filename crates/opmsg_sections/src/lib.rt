@@ -1,4 +1,6 @@
 // Checks 10 to 21: the sections of a message, from left to right. A slice starts at the place `at` of the message, and ends below 2 ^ 31.
+#![tactic(auto)]
+
 ghost use Rattle.std.specs.Prelude.{[], ◌≡◌, ℕ, ◌+◌, ◌^◌, ◌<◌, length};
 ghost use Rattle.opmsg.specs.Sections.{Parts, body_section, section_at};
 ghost use Rattle.opmsg.specs.View.{padded};

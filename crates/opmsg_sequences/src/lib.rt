@@ -1,4 +1,6 @@
 // Checks 12 to 21: a section that is a document sequence. A slice starts at the place `at` of the message, and ends below 2 ^ 31.
+#![tactic(auto)]
+
 ghost use Rattle.std.specs.Prelude.{◌≡◌, ℕ, ◌+◌, ◌^◌, ◌<◌, ◌≤◌, length};
 ghost use Rattle.opmsg.specs.Sections.{Parts, sequence_run, sequence_named, sequence_section};
 ghost use Rattle.opmsg_sequences.specs.Inner.{part_of, PartWithin, PassedNumbers};

@@ -1,4 +1,6 @@
 // What a call answers.
+#![tactic(auto)]
+
 ghost use Rattle.std.specs.Prelude.{◌≡◌, ◌+◌, ◌≤◌, length};
 ghost use Rattle.wire.specs.Outcome.{refused};
 ghost use Rattle.wire.specs.Bytes.{word_at, signed};

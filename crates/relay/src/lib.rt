@@ -1,4 +1,6 @@
 // The front door: every call, type and limit that a caller needs, each with its promise.
+#![tactic(auto)]
+
 pub use bson::MAX_LEVELS;
 pub use bson_elements::MAX_ELEMENTS;
 pub use listing::Step;

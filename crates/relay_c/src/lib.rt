@@ -1,4 +1,6 @@
 // The calls of the library for C and Rust: numbers and slices only. host/relay.h is their manual.
+#![tactic(auto)]
+
 ghost use Rattle.std.specs.Prelude.{◌≡◌, length};
 ghost use Rattle.opmsg.specs.Read.{read};
 ghost use Rattle.message.specs.Message.{viewed, output};

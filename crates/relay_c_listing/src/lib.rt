@@ -1,4 +1,6 @@
 // The reader of stored listings, its answer as numbers.
+#![tactic(auto)]
+
 ghost use Rattle.std.specs.Prelude.{◌∷◌, ◌≡◌, ◌^◌, ◌<◌, length};
 ghost use Rattle.wire.specs.Outcome.{ok};
 ghost use Rattle.listing_stored.specs.Stored.{read_listing};

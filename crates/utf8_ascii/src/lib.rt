@@ -1,4 +1,6 @@
 // Characters of one byte, which is below 0x80.
+#![tactic(auto)]
+
 ghost use Rattle.std.specs.Prelude.{◌≡◌, true, ◌<◌, ◌≤◌, length, get_or};
 ghost use Rattle.utf8_ascii.specs.Inner.{Ascii, PlainRun};
 

@@ -1,4 +1,6 @@
 // Text that is read: how much of it is UTF-8, and where a zero byte ends it.
+#![tactic(auto)]
+
 ghost use Rattle.std.specs.Prelude.{true, ◌≡◌, ◌<◌, ◌≤◌, length, get_or};
 ghost use Rattle.wire.specs.Bytes.{until_zero};
 ghost use Rattle.utf8.specs.Text.{well_formed};

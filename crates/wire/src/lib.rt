@@ -1,4 +1,6 @@
 // Numbers and texts in bytes: little-endian words, signed words, the search for a zero byte, the bytes from a place on.
+#![tactic(auto)]
+
 ghost use Rattle.std.specs.Prelude.{true, ◌≡◌, ◌+◌, ◌<◌, ◌≤◌, length, get_or, take, drop};
 ghost use Rattle.wire.specs.Bytes.{word, under, signed, bits32, until_zero};
 

@@ -13,10 +13,10 @@ behind_spec =
     tie.close
     (tie.spec
     (λ c. search rules)
-    (λ c. omega (arith, rw c.before.e.given.1 at c.before.before.before.requires))
+    (λ c. omega (arith, rw c.in-Takes.is at c.requires))
     (λ c. search rules)
     (λ c. search rules)
-    (λ c. omega (arith, rw c.before.e2.given.1 at c.before.before.before.requires))
-    (λ c. let e = c.before.e.given.1 in (λ v at. rw e, λ n h. omega (arith, rw e at h)))
-    (λ c. (λ v at. rw c.enum_told.given.1, λ n h. tt))
-    (λ c. let e = c.before.e2.given.1 in (λ v at. rw e (ap (refused 27) (omega arith)), λ n h. omega (arith, rw e at h))))
+    (λ c. omega (arith, rw c.in-IllFormed.is at c.requires))
+    (λ c. let e = c.in-Takes.is in (λ v at. rw e, λ n h. omega (arith, rw e at h)))
+    (λ c. (λ v at. rw c.in-Broken.is, λ n h. tt))
+    (λ c. let e = c.in-IllFormed.is in (λ v at. rw e (ap (refused 27) (omega arith)), λ n h. omega (arith, rw e at h))))

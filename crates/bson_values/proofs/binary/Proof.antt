@@ -32,32 +32,32 @@ checked v xs = same_after (refuse 19 v (ltb (length xs) 4)) _ _ λ _ _. same_aft
 counted : {v k : ℕ} (p : Past (checks v) k) → Answers p (ok (5 + word p.given)) (binary v p.given)
 counted {v} p t = answers p _ t ∙ checked v p.given
 
-abbrev past_1 : (v : ℕ) → tie.Else1 → Past (checks v) 1
-past_1 v c = next (first c.before.before.args.s.now) (le-ltb _ _ c.if1.false)
+abbrev past_1 : (v : ℕ) → tie.Else-s-lt4 → Past (checks v) 1
+past_1 v c = next (first c.args.s.now) (le-ltb _ _ c.if-s-lt4.false)
 
-abbrev past_2 : (v : ℕ) → tie.Else2 → Past (checks v) 2
-past_2 v c = let u = c.before in next (past_1 v u.before.before) (rw (← u.before.word.ensures, ← u.under.ensures) c.if2.false)
+abbrev past_2 : (v : ℕ) → tie.Else-under → Past (checks v) 2
+past_2 v c = let u = c.before in next (past_1 v u.before.before) (rw (← u.word-w.ensures, ← u.under.ensures) c.if-under.false)
 
-abbrev past_3 : (v : ℕ) → tie.Else3 → Past (checks v) 3
-past_3 v c = next (past_2 v c.before) (rw (← c.before.before.before.word.ensures) (le-ltb _ _ c.if3.false))
+abbrev past_3 : (v : ℕ) → tie.Else-s-n → Past (checks v) 3
+past_3 v c = next (past_2 v c.before) (rw (← c.word-w.ensures) (le-ltb _ _ c.if-s-n.false))
 
 pub binary_spec : {M : Type 1} → statement M
 binary_spec =
     tie.close
     (tie.spec
-    (λ c. (λ v at. counted (first _) (lt-ltb _ _ c.if1.true), tt))
+    (λ c. (λ v at. counted (first _) (lt-ltb _ _ c.if-s-lt4.true), tt))
     (λ c κs. search rules)
     (λ c κs. search rules)
-    (λ c. let u = c.before in (λ v at. counted (past_1 v u.before.before) (rw (← u.before.word.ensures, ← u.under.ensures) c.if2.true), tt))
+    (λ c. let u = c.before in (λ v at. counted (past_1 v u.before.before) (rw (← u.word-w.ensures, ← u.under.ensures) c.if-under.true), tt))
     (λ c. search rules)
     (λ c. search rules)
-    (λ c. let p = c.before in (λ v at. counted (past_2 v p) (rw (← p.before.before.word.ensures) (lt-ltb _ _ c.if3.true)), tt))
+    (λ c. let p = c.before in (λ v at. counted (past_2 v p) (rw (← p.word-w.ensures) (lt-ltb _ _ c.if-s-n.true)), tt))
     (λ c κs. search rules)
     (λ c.
     let p = c.before.before in
-    (λ v at. counted (past_3 v p) (rw (← p.before.before.before.word.ensures) (sym c.before.miscounted.ensures ∙ c.if4.true)), tt))
+    (λ v at. counted (past_3 v p) (rw (← p.word-w.ensures) (sym c.miscounted.ensures ∙ c.if-miscounted.true)), tt))
     (λ c. search rules)
     (λ c.
     let p = c.before.before in
-    let w = p.before.before.before in
-    (λ v at. rw w.word.ensures (counted (next (past_3 v p) (rw (← w.word.ensures) (sym c.before.miscounted.ensures ∙ c.if4.false))) refl), p.if3.false)))
+    let w = p in
+    (λ v at. rw w.word-w.ensures (counted (next (past_3 v p) (rw (← w.word-w.ensures) (sym c.miscounted.ensures ∙ c.if-miscounted.false))) refl), p.if-s-n.false)))

@@ -7,16 +7,16 @@ use Rattle.bson_values.specs.Value.{boolean}
 use Rattle.bson_values.proofs.boolean.Statement.{statement}
 use Rattle.bson_values.proofs.boolean.Tie as tie
 
-returns-3 : tie.Need-returns-3
+returns-3 : tie.Need-returns
 unfolding boolean ◌>>=◌ refuse
-returns-3 c = (λ v at. rw (boolean, le-ltb _ _ c.before.before.if1.false, le-ltb _ _ c.if2.false), c.before.before.if1.false)
+returns-3 c = (λ v at. rw (boolean, le-ltb _ _ c.if-s-lt1.false, le-ltb _ _ c.if-s-gt1.false), c.if-s-lt1.false)
 
 pub boolean_spec : {M : Type 1} → statement M
 unfolding boolean ◌>>=◌ refuse
 boolean_spec =
     tie.close
     (tie.spec
-    (λ c. (λ v at. rw (boolean, lt-ltb _ _ c.if1.true), tt))
+    (λ c. (λ v at. rw (boolean, lt-ltb _ _ c.if-s-lt1.true), tt))
     (λ c. search rules)
-    (λ c. (λ v at. rw (boolean, le-ltb _ _ c.before.before.if1.false, lt-ltb _ _ c.if2.true), tt))
+    (λ c. (λ v at. rw (boolean, le-ltb _ _ c.if-s-lt1.false, lt-ltb _ _ c.if-s-gt1.true), tt))
     returns-3)

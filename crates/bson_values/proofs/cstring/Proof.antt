@@ -8,16 +8,16 @@ use Rattle.bson_values.specs.Value.{cstring}
 use Rattle.bson_values.proofs.cstring.Statement.{statement}
 use Rattle.bson_values.proofs.cstring.Tie as tie
 
-text : tie.Need-returns
+text : tie.Need-returns-in-Text
 unfolding cstring ◌>>=◌ refuse
 text c =
-    let f = rw c.before.n.given.1 at c.before.before.before.zero_ended.ensures in
+    let f = rw c.in-Text.is at c.zero_ended.ensures in
     (λ v at. rw (cstring, ← f.0, lt-leb _ _ f.1, f.2 at), omega (arith, f.1))
 
-ill_formed : tie.Need-returns-3
+ill_formed : tie.Need-returns-in-IllFormed
 unfolding cstring ◌>>=◌ refuse
 ill_formed c =
-    let f = rw c.before.n2.given.1 at c.before.before.before.zero_ended.ensures in
+    let f = rw c.in-IllFormed.is at c.zero_ended.ensures in
     (λ v at. rw (cstring, lt-leb _ _ f.0, f.2 at), omega (arith, f.0, f.1))
 
 pub cstring_spec : {M : Type 1} → statement M
@@ -27,9 +27,9 @@ cstring_spec =
     (tie.spec
     (λ c κs. search rules)
     (λ c. search rules)
-    (λ c. omega (arith, (rw c.before.n.given.1 at c.before.before.before.zero_ended.ensures).1))
+    (λ c. omega (arith, (rw c.in-Text.is at c.zero_ended.ensures).1))
     (λ c. search rules)
     (λ c. search rules)
     text
-    (λ c. (λ v at. rw (cstring, le-leb _ _ (rw c.enum_told.given.1 at c.before.before.zero_ended.ensures)), tt))
+    (λ c. (λ v at. rw (cstring, le-leb _ _ (rw c.in-Unended.is at c.zero_ended.ensures)), tt))
     ill_formed)

@@ -8,12 +8,12 @@ use Rattle.bson_values.proofs.Types.{not_left, not_right, above_table}
 use Rattle.bson_values.proofs.key.Statement.{statement}
 use Rattle.bson_values.proofs.key.Tie as tie
 
-returns : tie.Need-returns
+returns : tie.Need-returns-in-127
 unfolding table rule_in one_of
-returns c = λ h. ⊎_elim (λ e. λ at. sym (ap (rule_in table at) e)) (λ e. λ at. sym (ap (rule_in table at) e)) c.match.keys1
+returns c = λ h. ⊎_elim (λ e. λ at. sym (ap (rule_in table at) e)) (λ e. λ at. sym (ap (rule_in table at) e)) c.in-127.is
 
-returns-2 : tie.Need-returns-2
-returns-2 c = λ h at. sym (above_table at c.before.args.t h (not_left c.match.rest.1) (not_right c.match.rest.1))
+returns-2 : tie.Need-returns-in_default
+returns-2 c = λ h at. sym (above_table at c.args.t h (not_left c.in_default.in_default-own.rest.1) (not_right c.in_default.in_default-own.rest.1))
 
 pub key_spec : {M : Type 1} → statement M
 key_spec = tie.close (tie.spec returns returns-2)

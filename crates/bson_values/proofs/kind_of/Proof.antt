@@ -20,31 +20,31 @@ kind_of_spec =
     tie.close
     (tie.spec
     (λ c κs. search rules)
-    (λ c. λ at. c.key.ensures c.before.if1.true at)
-    (λ c. at_key c.match.keys2)
-    (λ c. at_key c.match.keys3)
-    (λ c. at_key c.match.keys4)
-    (λ c. at_key c.match.keys5)
-    (λ c. ⊎_elim at_key at_key c.match.keys6)
-    (λ c. at_key c.match.keys8)
-    (λ c. at_key c.match.keys9)
-    (λ c. at_key c.match.keys10)
-    (λ c. at_key c.match.keys11)
+    (λ c. λ at. c.key.ensures c.if-t-gt19.true at)
+    (λ c. at_key c.in-16.is)
+    (λ c. at_key c.in-19.is)
+    (λ c. at_key c.in-7.is)
+    (λ c. at_key c.in-8.is)
+    (λ c. ⊎_elim at_key at_key c.in-6.is)
+    (λ c. at_key c.in-5.is)
+    (λ c. at_key c.in-11.is)
+    (λ c. at_key c.in-12.is)
+    (λ c. at_key c.in-15.is)
     (λ c.
-    let r = c.before.before.match.rest in
-    ⊎_elim at_key at_key (neighbours 3 c.before.before.before.before.args.t (above (above c.before.if2.false (not_left r.0.0.0.0.0.0.0.0.0.0.1)) r.0.0.0.0.1) c.if3.true))
-    (λ c. let e : c.before.before.before.args.t ≡ 0 = omega arith in at_key e)
+    let r = c.in-3.in_default-own.rest in
+    ⊎_elim at_key at_key (neighbours 3 c.args.t (above (above c.in-3.if-t-lt1-own.false (not_left r.0.0.0.0.0.0.0.0.0.0.1)) r.0.0.0.0.1) c.in-3.if-t-lt5-own.true))
+    (λ c. let e : c.args.t ≡ 0 = omega arith in at_key e)
     (λ c.
-    let r = c.before.before.before.before.match.rest in
-    absurd (omega (arith, above c.if5.false r.0.0.0.0.0.0.0.0.1)))
-    (λ c. at_key c.match.keys7)
+    let r = c.in_default.in_default-own.rest in
+    absurd (omega (arith, above c.in_default.if-t-lt19-own.false r.0.0.0.0.0.0.0.0.1)))
+    (λ c. at_key c.in-2.is)
     (λ c.
-    let r = c.before.before.before.match.rest in
+    let r = c.in-2.in_default-own.rest in
     let q = r.0.0.0.0.0 in
-    let low = above (above (above (above c.before.if3.false r.0.0.0.1) (not_left q.1)) q.0.0.1) q.0.1 in
+    let low = above (above (above (above c.in-2.if-t-lt5-own.false r.0.0.0.1) (not_left q.1)) q.0.0.1) q.0.1 in
     let high = above (above (above (above low (not_right q.0.0.0.0.0.1)) (not_right q.1)) r.0.0.1) r.0.1 in
-    ⊎_elim at_key at_key (neighbours 13 c.before.before.before.before.before.args.t high c.if4.true))
-    (λ c. ⊎_elim at_key at_key c.match.keys1)
+    ⊎_elim at_key at_key (neighbours 13 c.args.t high c.in-2.if-t-lt15-own.true))
+    (λ c. ⊎_elim at_key at_key c.in-1.is)
     (λ c.
-    let r = c.before.before.before.before.match.rest in
-    ⊎_elim at_key at_key (neighbours 17 c.before.before.before.before.before.before.args.t (above (above c.before.if4.false r.1) r.0.0.0.0.0.0.0.0.0.1) c.if5.true)))
+    let r = c.in-1.in_default-own.rest in
+    ⊎_elim at_key at_key (neighbours 17 c.args.t (above (above c.in-1.if-t-lt15-own.false r.1) r.0.0.0.0.0.0.0.0.0.1) c.in-1.if-t-lt19-own.true)))

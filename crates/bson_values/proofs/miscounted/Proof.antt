@@ -8,20 +8,20 @@ use Rattle.wire.proofs.Parts.{rest_part}
 use Rattle.bson_values.proofs.miscounted.Statement.{statement}
 use Rattle.bson_values.proofs.miscounted.Tie as tie
 
-other-subtype : tie.Need-returns
-other-subtype c = let s = c.before.before.before.args.s.now in rw (ne_eqb (get_or s 4 0) 2 (λ e. omega (arith, c.if1.true)))
+other-subtype : tie.Need-returns-then-s-ne2
+other-subtype c = let s = c.args.s.now in rw (ne_eqb (get_or s 4 0) 2 (λ e. omega (arith, c.if-s-ne2.true)))
 
-too_short : tie.Need-returns-2
+too_short : tie.Need-returns-then-n-lt4
 too_short c =
-    let a = c.before.before.before.before.args in
-    rw (eq-eqb (get_or a.s.now 4 0) 2 (omega (arith, c.before.if1.false)), lt-ltb a.n 4 (omega (arith, c.if2.true)))
+    let a = c.args in
+    rw (eq-eqb (get_or a.s.now 4 0) 2 (omega (arith, c.if-s-ne2.false)), lt-ltb a.n 4 (omega (arith, c.if-n-lt4.true)))
 
-compared : tie.Need-returns-3
+compared : tie.Need-returns
 compared c =
-    let t = c.before.before in
-    let a = t.before.before.before.before.args in
+    let t = c in
+    let a = t.args in
     let s = a.s.now in
-    rw (eq-eqb (get_or s 4 0) 2 (omega (arith, t.before.if1.false)), le-ltb a.n 4 (omega (arith, t.if2.false)), ← rest_part 5 s, ← c.word.ensures)
+    rw (eq-eqb (get_or s 4 0) 2 (omega (arith, t.if-s-ne2.false)), le-ltb a.n 4 (omega (arith, t.if-n-lt4.false)), ← rest_part 5 s, ← c.word.ensures)
 
 pub miscounted_spec : {M : Type 1} → statement M
 miscounted_spec =

@@ -9,22 +9,22 @@ use Rattle.bson_values.proofs.Pairs.{broken, ill_formed, fits, small, pair, pair
 use Rattle.bson_values.proofs.pointer.Statement.{statement}
 use Rattle.bson_values.proofs.pointer.Tie as tie
 
-inside : (c : tie.After-known-told) → let f = c.before.before.before in c.before.m.given.0.0 ≤ length f.before.before.args.s.now
-inside c = let f = c.before.before.before.string.ensures in fits string (λ v at. sized v 12) _ _ f.0 f.1 _ c.before.m.given.1
+inside : (c : tie.In-Takes) → let f = c.before.before.before in c.in-Takes.m ≤ length f.args.s.now
+inside c = let f = c.string.ensures in fits string (λ v at. sized v 12) _ _ f.0 f.1 _ c.in-Takes.is
 
 room : tie.Need-behind-requires
 room c κs =
-    let m = c.before.before.before in
-    let f = m.before.before.string.ensures in
-    small string (λ v at. sized v 12) _ _ f.0 f.1 _ m.m.given.1 c.sized.result c.sized.ensures.0 c.sized.ensures.1 (omega arith)
+    let m = c in
+    let f = m.string.ensures in
+    small string (λ v at. sized v 12) _ _ f.0 f.1 _ m.in-Takes.is c.sized.result c.sized.ensures.0 c.sized.ensures.1 (omega arith)
 
-both : tie.Need-returns
+both : tie.Need-returns-in-Takes
 unfolding pointer
 both c =
-    let d = c.before in
-    let m = d.before.before.before in
-    let f = m.before.before.string.ensures in
-    let e = m.m.given.1 in
+    let d = c in
+    let m = d in
+    let f = m.string.ensures in
+    let e = m.in-Takes.is in
     let g = d.sized in
     let h = c.behind in (
       λ v. pair string (λ v at. sized v 12) _ _ f.0 f.1 _ e g.result g.ensures.0 g.ensures.1 h.result h.ensures.0 v v,
@@ -46,5 +46,5 @@ pointer_spec =
     (λ c. search rules)
     (λ c. search rules)
     both
-    (λ c. let f = c.before.before.string.ensures in (λ v. broken string (λ v at. sized v 12) _ _ f.0 f.1 c.enum_told.given.1 v v, tt))
-    (λ c. let f = c.before.before.before.string.ensures in let e = c.before.n.given.1 in (λ v. ill_formed string (λ v at. sized v 12) _ _ f.0 f.1 _ e v v, rw e at f.1)))
+    (λ c. let f = c.string.ensures in (λ v. broken string (λ v at. sized v 12) _ _ f.0 f.1 c.in-Broken.is v v, tt))
+    (λ c. let f = c.string.ensures in let e = c.in-IllFormed.is in (λ v. ill_formed string (λ v at. sized v 12) _ _ f.0 f.1 _ e v v, rw e at f.1)))

@@ -9,23 +9,23 @@ use Rattle.bson_values.proofs.Pairs.{broken, ill_formed, fits, small, pair, pair
 use Rattle.bson_values.proofs.regex.Statement.{statement}
 use Rattle.bson_values.proofs.regex.Tie as tie
 
-inside : (c : tie.After-known-told) → let f = c.before.before.before in c.before.m.given.0.0 ≤ length f.before.before.args.s.now
-inside c = let f = c.before.before.before.cstring.ensures in fits cstring cstring _ _ f.0 f.1 _ c.before.m.given.1
+inside : (c : tie.In-Takes) → let f = c.before.before.before in c.in-Takes.m ≤ length f.args.s.now
+inside c = let f = c.cstring.ensures in fits cstring cstring _ _ f.0 f.1 _ c.in-Takes.is
 
 room : tie.Need-behind-requires
 room c κs =
-    let m = c.before.before.before in
-    let f = m.before.before.cstring.ensures in
-    small cstring cstring _ _ f.0 f.1 _ m.m.given.1 c.cstring2.result c.cstring2.ensures.0 c.cstring2.ensures.1 (omega arith)
+    let m = c in
+    let f = m.cstring.ensures in
+    small cstring cstring _ _ f.0 f.1 _ m.in-Takes.is c.cstring-in-Takes.result c.cstring-in-Takes.ensures.0 c.cstring-in-Takes.ensures.1 (omega arith)
 
-both : tie.Need-returns
+both : tie.Need-returns-in-Takes
 unfolding regex
 both c =
-    let d = c.before in
-    let m = d.before.before.before in
-    let f = m.before.before.cstring.ensures in
-    let e = m.m.given.1 in
-    let g = d.cstring2 in
+    let d = c in
+    let m = d in
+    let f = m.cstring.ensures in
+    let e = m.in-Takes.is in
+    let g = d.cstring-in-Takes in
     let h = c.behind in (
       λ v. pair cstring cstring _ _ f.0 f.1 _ e g.result g.ensures.0 g.ensures.1 h.result h.ensures.0 v v,
       pair_within cstring cstring _ _ f.0 f.1 _ e g.result g.ensures.0 g.ensures.1 h.result h.ensures.1,
@@ -46,5 +46,5 @@ regex_spec =
     (λ c. search rules)
     (λ c. search rules)
     both
-    (λ c. let f = c.before.before.cstring.ensures in (λ v. broken cstring cstring _ _ f.0 f.1 c.enum_told.given.1 v v, tt))
-    (λ c. let f = c.before.before.before.cstring.ensures in let e = c.before.n.given.1 in (λ v. ill_formed cstring cstring _ _ f.0 f.1 _ e v v, rw e at f.1)))
+    (λ c. let f = c.cstring.ensures in (λ v. broken cstring cstring _ _ f.0 f.1 c.in-Broken.is v v, tt))
+    (λ c. let f = c.cstring.ensures in let e = c.in-IllFormed.is in (λ v. ill_formed cstring cstring _ _ f.0 f.1 _ e v v, rw e at f.1)))

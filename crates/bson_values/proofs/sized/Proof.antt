@@ -11,5 +11,5 @@ unfolding sized ◌>>=◌ refuse
 sized_spec =
     tie.close
     (tie.spec
-    (λ c. (λ v at. rw (sized, lt-ltb _ _ c.if1.true), tt))
-    (λ c. (λ v at. rw (sized, le-ltb _ _ c.if1.false), c.if1.false)))
+    (λ c. (λ v at. rw (sized, lt-ltb _ _ c.if-s-n.true), tt))
+    (λ c. (λ v at. rw (sized, le-ltb _ _ c.if-s-n.false), c.if-s-n.false)))

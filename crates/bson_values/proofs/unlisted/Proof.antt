@@ -9,16 +9,16 @@ use Rattle.bson_values.proofs.Rows.{low_types}
 use Rattle.bson_values.proofs.unlisted.Statement.{statement}
 use Rattle.bson_values.proofs.unlisted.Tie as tie
 
-returns-5 : tie.Need-returns-5
-returns-5 c = λ at. above_table at c.before.before.before.before.args.t (omega arith) c.before.if3.false c.if4.false
+returns-5 : tie.Need-returns
+returns-5 c = λ at. above_table at c.args.t (omega arith) c.if-t-eq127.false c.if-t-eq255.false
 
 pub unlisted_spec : {M : Type 1} → statement M
 unfolding table rule_in one_of
 unlisted_spec =
     tie.close
     (tie.spec
-    (λ c. λ at. ap (rule_in table at) c.if1.true)
-    (λ c. λ at. low_types at c.before.before.args.t (omega arith) (omega arith))
-    (λ c. λ at. (_, ap (rule_in table at) c.if3.true))
-    (λ c. λ at. (_, ap (rule_in table at) c.if4.true))
+    (λ c. λ at. ap (rule_in table at) c.if-t-eq0.true)
+    (λ c. λ at. low_types at c.args.t (omega arith) (omega arith))
+    (λ c. λ at. (_, ap (rule_in table at) c.if-t-eq127.true))
+    (λ c. λ at. (_, ap (rule_in table at) c.if-t-eq255.true))
     returns-5)

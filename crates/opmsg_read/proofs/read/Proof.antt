@@ -138,7 +138,7 @@ returns-5 c =
     let t = (w k).before in
     let a = (start t).args in
     let g = rw p.enum-told3.given.1 at n.sections.ensures in
-    rw (c.view.ensures g.parts g.shows.entries-is g.elements-is) (ap answer (sym (rest t
+    rw (c.view.ensures g.parts g.shows.entries_is g.elements_is) (ap answer (sym (rest t
     ∙ shown a.e a.s.now (w k).word.result k.checksum-size.result (w k).word.ensures (size k) g.parts g.read
     (sym (d.distinct-names.ensures g.parts.sections g.shows) ∙ ap judged q.enum-told4.given.1))))
 

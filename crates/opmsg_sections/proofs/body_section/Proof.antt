@@ -19,7 +19,7 @@ returns-2 c =
     let p3 = c.before.before.before in
     let p5 = p3.before.before in
     let p7 = p5.before.before in (
-      λ p number k. rw (body_section, k.start_is, le-ltb _ _ p5.if1.false, k.elements-is, ← rest_part 1 p7.args.xs.now, ← p3.document.ensures, c.before.size.given.1),
+      λ p number k. rw (body_section, k.start_is, le-ltb _ _ p5.if1.false, k.elements_is, ← rest_part 1 p7.args.xs.now, ← p3.document.ensures, c.before.size.given.1),
       body_reaches _ p7.args.xs.now _ _ _ _ p3.document.ensures c.before.size.given.1,
     )
 
@@ -28,7 +28,7 @@ unfolding body_section ◌>>=◌ refuse
 returns-3 c =
     let p3 = c.before.before.before in
     let p5 = p3.before.before in
-    (λ p number k. rw (body_section, k.start_is, le-ltb _ _ p5.if1.false, k.elements-is, ← rest_part 1 p5.before.before.args.xs.now, ← p3.document.ensures, c.before.number.given.1), tt)
+    (λ p number k. rw (body_section, k.start_is, le-ltb _ _ p5.if1.false, k.elements_is, ← rest_part 1 p5.before.before.args.xs.now, ← p3.document.ensures, c.before.number.given.1), tt)
 
 pub body_section_spec : {M : Type 1} → statement M
 body_section_spec =

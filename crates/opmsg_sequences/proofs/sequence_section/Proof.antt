@@ -72,4 +72,4 @@ sequence_section_spec =
     (λ c.
     let s = c.before in
     let w = size s.before.before.before in
-    (λ p start k. rw (← behind (next (past_3 s.before) (rw (← w) (le-ltb _ _ s.if4.false))) p k.number_is refl, ← w) (c.sequence-named.ensures.0 p k.elements-is), c.sequence-named.ensures.1)))
+    (λ p start k. rw (← behind (next (past_3 s.before) (rw (← w) (le-ltb _ _ s.if4.false))) p k.number_is refl, ← w) (c.sequence-named.ensures.0 p k.elements_is), c.sequence-named.ensures.1)))

@@ -8,20 +8,20 @@ use Rattle.utf8_ascii.proofs.OneByte.{gathered}
 use Rattle.utf8_ascii.proofs.block.Statement.{statement}
 use Rattle.utf8_ascii.proofs.block.Tie as tie
 
-abbrev invariant-loop : tie.invariant-loop
+abbrev invariant-loop : tie.invariant-loop-k
 invariant-loop s all₀ k₀ all k = (k ≤ 64) × ((i : ℕ) → i < k → get_or s i 0 ≤ all)
 
-abbrev decreases-loop : tie.decreases-loop
+abbrev decreases-loop : tie.decreases-loop-k
 decreases-loop s all₀ k₀ all k = 64 - k
 
-loop-again : tie.Need-loop-preserved invariant-loop decreases-loop
+loop-again : tie.Need-loop-k-preserved invariant-loop decreases-loop
 loop-again c =
-    let l = c.before.before.loop in
+    let l = c.before.before.loop-k in
     (omega arith, gathered c.before.before.before.args.s.now l.k l.all l.invariant.1)
 
 -- so none is where `all` is below 0x80
 below : tie.Need-returns invariant-loop decreases-loop
-below c h i l = omega (arith, c.before.loop.invariant.1 i (omega arith), ltb-true c.before.loop.all 0x80 h)
+below c h i l = omega (arith, c.before.loop-k.invariant.1 i (omega arith), ltb-true c.before.loop-k.all 0x80 h)
 
 pub block_spec : {M : Type 1} → statement M
 block_spec =

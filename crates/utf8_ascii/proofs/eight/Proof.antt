@@ -2,15 +2,14 @@
 -- Assumes nothing.
 use mathlib.Core.Bool.{false≢true}
 use borrow.Author.Rules.{rules}
-use borrow.Author.Tests.{not-false}
 use Rattle.utf8_ascii.proofs.OneByte.{ascii_part}
 use Rattle.utf8_ascii.proofs.eight.Statement.{statement}
 use Rattle.utf8_ascii.proofs.eight.Tie as tie
 
-both : tie.Need-returns-2
+both : tie.Need-returns
 both c h =
     let b = c.before.before in
-    ascii_part 4 4 b.before.before.before.args.s.now (b.before.four.ensures (not-false _ b.if1.false)) (c.four2.ensures h)
+    ascii_part 4 4 b.before.before.before.args.s.now (b.before.four.ensures b.if-not-four.false) (c.four-2.ensures h)
 
 pub eight_spec : {M : Type 1} → statement M
 eight_spec =

@@ -4,23 +4,22 @@ use Prim.Native.Nat.{◌≤◌, ◌-◌}
 use native.Mathlib.Omega.{arith}
 use lib.ListN.{length}
 use borrow.Author.Count.{below_none}
-use borrow.Author.Tests.{not-false}
 use Rattle.utf8_ascii.specs.Inner.{Ascii}
 use Rattle.utf8_ascii.proofs.OneByte.{ascii_part}
 use Rattle.utf8_ascii.proofs.eights.Statement.{statement}
 use Rattle.utf8_ascii.proofs.eights.Tie as tie
 
-abbrev invariant-loop : tie.invariant-loop
+abbrev invariant-loop : tie.invariant-loop-i
 invariant-loop s i₀ i = (i ≤ length s) × Ascii i s
 
-abbrev decreases-loop : tie.decreases-loop
+abbrev decreases-loop : tie.decreases-loop-i
 decreases-loop s i₀ i = length s - i
 
-loop-again : tie.Need-loop-preserved invariant-loop decreases-loop
+loop-again : tie.Need-loop-i-preserved invariant-loop decreases-loop
 loop-again c =
     let t = c.before.before.before in
-    let l = t.before.loop in
-    (omega arith, ascii_part l.i 8 t.before.before.before.args.s.now l.invariant.1 (c.before.eight.ensures (not-false _ c.if1.false)))
+    let l = t.before.loop-i in
+    (omega arith, ascii_part l.i 8 t.before.before.before.args.s.now l.invariant.1 (c.before.eight.ensures c.if-not-eight.false))
 
 pub eights_spec : {M : Type 1} → statement M
 eights_spec =
@@ -32,8 +31,8 @@ eights_spec =
     (λ c. omega arith)
     (λ c. omega arith)
     (λ c κs. omega arith)
-    (λ c. c.before.before.before.before.loop.invariant)
+    (λ c. c.before.before.before.before.loop-i.invariant)
     (λ c. omega arith)
     (λ c. omega arith)
     loop-again
-    (λ c. c.before.loop.invariant))
+    (λ c. c.before.loop-i.invariant))

@@ -7,4 +7,4 @@ use Rattle.utf8_ascii.proofs.plain.Statement.{statement}
 use Rattle.utf8_ascii.proofs.plain.Tie as tie
 
 pub plain_spec : {M : Type 1} → statement M
-plain_spec = tie.close (tie.spec (λ c. search rules) (λ c h. absurd (omega (arith, ltb-true 0 c.before.args.x h, c.if1.false))))
+plain_spec = tie.close (tie.spec (λ c. search rules) (λ c h. absurd (omega (arith, ltb-true 0 c.before.args.x h, c.if-x-gt0.false))))

@@ -2,17 +2,16 @@
 -- Assumes nothing.
 use native.Mathlib.Omega.{arith}
 use borrow.Author.Rules.{rules}
-use borrow.Author.Tests.{not-false}
 use Rattle.utf8_ascii.proofs.OneByte.{ascii_one, ascii_part}
 use Rattle.utf8_ascii.proofs.run.Statement.{statement}
 use Rattle.utf8_ascii.proofs.run.Tie as tie
 
-four-and-more : tie.Need-returns-3
+four-and-more : tie.Need-returns
 four-and-more c =
     let f = c.before.before in
     let w = c.words.ensures in
     let s = f.before.before.before.before.args.s.now in
-    (omega (arith, w.0, c.before.words-arg.given.2), ascii_part 4 _ s (f.before.four.ensures (not-false _ f.if2.false)) w.1)
+    (omega (arith, w.0, c.before.words-arg-1.given.1), ascii_part 4 _ s (f.before.four.ensures f.if-not-four.false) w.1)
 
 pub run_spec : {M : Type 1} → statement M
 run_spec =

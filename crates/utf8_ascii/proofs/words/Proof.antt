@@ -11,29 +11,29 @@ use Rattle.utf8_ascii.proofs.OneByte.{ascii_front, ascii_part}
 use Rattle.utf8_ascii.proofs.words.Statement.{statement}
 use Rattle.utf8_ascii.proofs.words.Tie as tie
 
-front : tie.Need-slice-aggregate-eights
-front c = sym (length-take-le 32 c.before.before.before.args.s.now (omega arith))
+front : tie.Need-slice_bounds-eights-end
+front c = sym (length-take-le 32 c.before.before.args.s.now (omega arith))
 
-short : tie.Need-returns-2
+short : tie.Need-returns-then-i-lt32
 short c =
-    let e = c.before.eights2.ensures in
-    let s = c.before.before.before.before.before.args.s.now in
+    let e = c.before.eights-i.ensures in
+    let s = c.before.before.before.before.args.s.now in
     (omega (arith, e.0), ascii_front 32 _ s (omega arith) e.1)
 
 -- the first thirty-two, and blocks behind them
-blocks : (c : tie.After-blocks2) → let s = c.before.before.before.before.before.before.before.args.s.now in
-    (32 + c.blocks2.result ≤ length s) × Ascii (32 + c.blocks2.result) s
+blocks : (c : tie.After-blocks-j) → let s = c.before.before.before.before.before.before.args.s.now in
+    (32 + c.blocks-j.result ≤ length s) × Ascii (32 + c.blocks-j.result) s
 blocks c =
     let w = c.before.before in
-    let e = w.before.eights2.ensures in
-    let s = w.before.before.before.before.before.args.s.now in
-    let all : w.before.eights2.result ≡ 32 = omega (arith, e.0, length-take-le 32 s w.before.before.before.if1.false) in
+    let e = w.before.eights-i.ensures in
+    let s = w.before.before.before.before.args.s.now in
+    let all : w.before.eights-i.result ≡ 32 = omega (arith, e.0, length-take-le 32 s w.before.before.if-s-lt32.false) in
     let first : Ascii 32 s = ascii_front 32 32 s (omega arith) (rw all at e.1) in
-    (omega (arith, c.blocks2.ensures.0, c.before.blocks-arg.given.2), ascii_part 32 _ s first c.blocks2.ensures.1)
+    (omega (arith, c.blocks-j.ensures.0, c.before.blocks-arg-1.given.1), ascii_part 32 _ s first c.blocks-j.ensures.1)
 
-long : (c : tie.After-eights3) → let s = c.before.before.before.before.before.before.before.before.before.args.s.now in
-    32 + c.before.before.blocks2.result + c.eights3.result ≤ length s
-long c = omega (arith, (blocks c.before.before).0, c.eights3.ensures.0, c.before.eights-arg2.given.2)
+long : (c : tie.After-eights-2) → let s = c.before.before.before.before.before.before.before.before.args.s.now in
+    32 + c.before.before.blocks-j.result + c.eights-2.result ≤ length s
+long c = omega (arith, (blocks c.before.before).0, c.eights-2.ensures.0, c.before.eights-arg-1.given.1)
 
 pub words_spec : {M : Type 1} → statement M
 words_spec =
@@ -44,8 +44,8 @@ words_spec =
     front
     (λ c κs. search rules)
     short
-    (λ c. c.before.before.before.if1.false)
-    (λ c. c.before.before.before.if1.false)
+    (λ c. c.before.before.if-s-lt32.false)
+    (λ c. c.before.before.if-s-lt32.false)
     (λ c. omega arith)
     (λ c κs. search rules)
     (λ c. omega (arith, (blocks c).0))
@@ -56,4 +56,4 @@ words_spec =
     (λ c. omega (arith, long c))
     (λ c.
     let b = c.before.before in
-    (long c, ascii_part _ _ b.before.before.before.before.before.before.before.args.s.now (blocks b).1 c.eights3.ensures.1)))
+    (long c, ascii_part _ _ b.before.before.before.before.before.before.args.s.now (blocks b).1 c.eights-2.ensures.1)))

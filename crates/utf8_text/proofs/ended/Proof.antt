@@ -8,15 +8,15 @@ use Rattle.utf8.proofs.Beginning.{front_refused, front_passed}
 use Rattle.utf8_text.proofs.ended.Statement.{statement}
 use Rattle.utf8_text.proofs.ended.Tie as tie
 
-broken : tie.Need-returns-2
+broken : tie.Need-returns-then-m-n
 broken c =
-    let e = c.before.before.before.before.before.requires in
-    rw (← e) (omega arith, c.if2.true, λ at. front_refused _ _ _ (omega arith) c.before.well-formed-2.ensures at c.if2.true)
+    let e = c.before.before.before.before.requires in
+    rw (← e) (omega arith, c.if-m-n.true, λ at. front_refused _ _ _ (omega arith) c.before.well_formed-m.ensures at c.if-m-n.true)
 
-whole : tie.Need-returns-3
+whole : tie.Need-returns
 whole c =
-    let e = c.before.before.before.before.before.requires in
-    (e, omega arith, λ at. front_passed _ _ _ (omega arith) c.before.well-formed-2.ensures at c.if2.false)
+    let e = c.before.before.before.before.requires in
+    (e, omega arith, λ at. front_passed _ _ _ (omega arith) c.before.well_formed-m.ensures at c.if-m-n.false)
 
 pub ended_spec : {M : Type 1} → statement M
 ended_spec =

@@ -5,11 +5,11 @@ use Rattle.utf8_text.proofs.Passing.{plain_text}
 use Rattle.utf8_text.proofs.far_ended.Statement.{statement}
 use Rattle.utf8_text.proofs.far_ended.Tie as tie
 
-plain : tie.Need-returns
+plain : tie.Need-returns-then-zero_at
 plain c =
     let z = c.before in
     let u = z.before in
-    plain_text _ u.before.before.args.s.now u.plain-run.ensures (z.zero-at.ensures c.if1.true)
+    plain_text _ u.before.before.args.s.now u.plain_run-n.ensures (z.zero_at.ensures c.if-zero_at.true)
 
 pub far_ended_spec : {M : Type 1} → statement M
 far_ended_spec =

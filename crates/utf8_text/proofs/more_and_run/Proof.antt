@@ -9,19 +9,19 @@ use Rattle.utf8_text.proofs.Passing.{character_passes, passes_part}
 use Rattle.utf8_text.proofs.more_and_run.Statement.{statement}
 use Rattle.utf8_text.proofs.more_and_run.Tie as tie
 
-one : (c : tie.After-of-more) → Passes c.of-more.result c.before.before.args.s.now
-one c = character_passes _ _ c.of-more.ensures
+one : (c : tie.After-of_more-n) → Passes c.of_more-n.result c.before.before.args.s.now
+one c = character_passes _ _ c.of_more-n.ensures
 
-three : (c : tie.Then1) → Passes 3 c.before.before.before.args.s.now
-three c = rw c.if1.true at (one c.before)
+three : (c : tie.Then-n-eq3) → Passes 3 c.before.before.before.args.s.now
+three c = rw c.if-n-eq3.true at (one c.before)
 
-and-more : tie.Need-returns
+and-more : tie.Need-returns-then-n-eq3
 and-more c =
     let t = c.before.before in
     (passes_part 3 _ t.before.before.before.args.s.now (three t) c.triples.ensures, λ e. absurd (omega (arith, e)))
 
-one-or-none : tie.Need-returns-2
-one-or-none c = let n = c.before in (one n, λ e. none _ (sym n.of-more.ensures ∙ e))
+one-or-none : tie.Need-returns
+one-or-none c = let n = c.before in (one n, λ e. none _ (sym n.of_more-n.ensures ∙ e))
 
 pub more_and_run_spec : {M : Type 1} → statement M
 more_and_run_spec =

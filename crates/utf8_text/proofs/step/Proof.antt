@@ -6,7 +6,7 @@ use Rattle.utf8_text.proofs.Passing.{ascii_passes}
 use Rattle.utf8_text.proofs.step.Statement.{statement}
 use Rattle.utf8_text.proofs.step.Tie as tie
 
-some : tie.Need-returns
+some : tie.Need-returns-then-s-lt128
 some c = let r = c.run.ensures in (ascii_passes _ _ r.0.1 r.1, λ e. absurd (omega (arith, r.0.0, e)))
 
 pub step_spec : {M : Type 1} → statement M
@@ -18,6 +18,6 @@ step_spec =
     some
     (λ c. search rules)
     (λ c κs. search rules)
-    (λ c. c.two-and-run.ensures)
+    (λ c. c.two_and_run.ensures)
     (λ c κs. search rules)
-    (λ c. c.more-and-run.ensures))
+    (λ c. c.more_and_run.ensures))

@@ -9,19 +9,19 @@ use Rattle.utf8_text.proofs.Passing.{character_passes, passes_part}
 use Rattle.utf8_text.proofs.two_and_run.Statement.{statement}
 use Rattle.utf8_text.proofs.two_and_run.Tie as tie
 
-one : (c : tie.After-of-two) → Passes c.of_two.result c.before.before.args.s.now
-one c = character_passes _ _ c.of_two.ensures
+one : (c : tie.After-of_two-n) → Passes c.of_two-n.result c.before.before.args.s.now
+one c = character_passes _ _ c.of_two-n.ensures
 
-two : (c : tie.Then1) → Passes 2 c.before.before.before.args.s.now
-two c = rw c.if1.true at (one c.before)
+two : (c : tie.Then-n-eq2) → Passes 2 c.before.before.before.args.s.now
+two c = rw c.if-n-eq2.true at (one c.before)
 
-and-more : tie.Need-returns
+and-more : tie.Need-returns-then-n-eq2
 and-more c =
     let t = c.before.before in
     (passes_part 2 _ t.before.before.before.args.s.now (two t) c.narrow.ensures, λ e. absurd (omega (arith, e)))
 
-one-or-none : tie.Need-returns-2
-one-or-none c = let n = c.before in (one n, λ e. none _ (sym n.of_two.ensures ∙ e))
+one-or-none : tie.Need-returns
+one-or-none c = let n = c.before in (one n, λ e. none _ (sym n.of_two-n.ensures ∙ e))
 
 pub two_and_run_spec : {M : Type 1} → statement M
 two_and_run_spec =

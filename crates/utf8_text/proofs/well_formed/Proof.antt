@@ -8,17 +8,17 @@ use Rattle.utf8_text.proofs.Passing.{none_passes, passes_part, ends_before, ends
 use Rattle.utf8_text.proofs.well_formed.Statement.{statement}
 use Rattle.utf8_text.proofs.well_formed.Tie as tie
 
-abbrev invariant-loop : tie.invariant-loop
+abbrev invariant-loop : tie.invariant-loop-i
 invariant-loop s i₀ i = Passes i s
 
-abbrev decreases-loop : tie.decreases-loop
+abbrev decreases-loop : tie.decreases-loop-i
 decreases-loop s i₀ i = length s - i
 
-where-it-broke : tie.Need-returns invariant-loop decreases-loop
-where-it-broke c = ends_before _ _ c.before.before.before.before.loop.invariant (c.before.step.ensures.1 c.if1.true)
+where-it-broke : tie.Need-returns-then-n-eq0 invariant-loop decreases-loop
+where-it-broke c = ends_before _ _ c.before.before.before.before.loop-i.invariant (c.before.step-n.ensures.1 c.if-n-eq0.true)
 
-loop-again : tie.Need-loop-preserved invariant-loop decreases-loop
-loop-again c = passes_part _ _ _ c.before.before.before.before.loop.invariant c.before.step.ensures.0
+loop-again : tie.Need-loop-i-preserved invariant-loop decreases-loop
+loop-again c = passes_part _ _ _ c.before.before.before.before.loop-i.invariant c.before.step-n.ensures.0
 
 pub well_formed_spec : {M : Type 1} → statement M
 well_formed_spec =
@@ -33,4 +33,4 @@ well_formed_spec =
     (λ c. omega arith)
     (λ c. omega arith)
     loop-again
-    (λ c. ends_at_the_end _ _ c.before.loop.invariant c.loop-test.false))
+    (λ c. ends_at_the_end _ _ c.before.loop-i.invariant c.loop-i-test.false))

@@ -6,7 +6,7 @@ use borrow.Author.Tests.{eqb-true}
 use Rattle.utf8_text.proofs.zero_at.Statement.{statement}
 use Rattle.utf8_text.proofs.zero_at.Tie as tie
 
-there : tie.Need-returns-2
+there : tie.Need-returns
 there c e = (omega arith, eqb-true _ _ e)
 
 pub zero_at_spec : {M : Type 1} → statement M

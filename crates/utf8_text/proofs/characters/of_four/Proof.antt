@@ -9,25 +9,25 @@ use Rattle.utf8.proofs.Forms.{meeting, of_form, of_none}
 use Rattle.utf8_text.proofs.characters.of_four.Statement.{statement}
 use Rattle.utf8_text.proofs.characters.of_four.Tie as tie
 
-returns : tie.Need-returns
+returns : tie.Need-returns-then-first
 unfolding forms meeting
 returns c =
     let s = c.before.before.before.before.args.s.now in
     c.four.ensures ∙ sym (of_form (0xF0 – 0xF0) s (omega arith) (omega arith) (omega arith) _ refl)
 
-returns-2 : tie.Need-returns-2
+returns-2 : tie.Need-returns-then-first-lt244
 unfolding forms meeting
 returns-2 c =
     let s = c.before.before.before.before.before.args.s.now in
-    c.four2.ensures ∙ sym (of_form (0xF1 – 0xF3) s (omega arith) (omega arith) (omega arith) _ refl)
+    c.four-then-first-lt244.ensures ∙ sym (of_form (0xF1 – 0xF3) s (omega arith) (omega arith) (omega arith) _ refl)
 
-returns-3 : tie.Need-returns-3
+returns-3 : tie.Need-returns-then-first-2
 unfolding forms meeting
 returns-3 c =
     let s = c.before.before.before.before.before.before.args.s.now in
-    c.four3.ensures ∙ sym (of_form (0xF4 – 0xF4) s (omega arith) (omega arith) (omega arith) _ refl)
+    c.four-then-first-2.ensures ∙ sym (of_form (0xF4 – 0xF4) s (omega arith) (omega arith) (omega arith) _ refl)
 
-returns-4 : tie.Need-returns-4
+returns-4 : tie.Need-returns
 unfolding forms meeting
 returns-4 c =
     let s = c.before.before.before.before.before.args.s.now in

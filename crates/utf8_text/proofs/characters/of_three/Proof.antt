@@ -9,24 +9,24 @@ use Rattle.utf8.proofs.Forms.{meeting, of_form}
 use Rattle.utf8_text.proofs.characters.of_three.Statement.{statement}
 use Rattle.utf8_text.proofs.characters.of_three.Tie as tie
 
-returns : tie.Need-returns
+returns : tie.Need-returns-then-first
 unfolding forms meeting
 returns c =
     let s = c.before.before.before.before.args.s.now in
     c.three.ensures ∙ sym (of_form (0xE0 – 0xE0) s (omega arith) (omega arith) (omega arith) _ refl)
 
-returns-2 : tie.Need-returns-2
+returns-2 : tie.Need-returns-then-first-2
 unfolding forms meeting
 returns-2 c =
     let s = c.before.before.before.before.before.args.s.now in
-    c.three2.ensures ∙ sym (of_form (0xED – 0xED) s (omega arith) (omega arith) (omega arith) _ refl)
+    c.three-then-first-2.ensures ∙ sym (of_form (0xED – 0xED) s (omega arith) (omega arith) (omega arith) _ refl)
 
-returns-3 : tie.Need-returns-3
+returns-3 : tie.Need-returns
 unfolding forms meeting
 returns-3 c =
     let s = c.before.before.before.before.before.args.s.now in
-    c.three3.ensures
-    ∙ ne_cases (get_or s 0 0) 0xED _ c.before.if2.false
+    c.three-2.ensures
+    ∙ ne_cases (get_or s 0 0) 0xED _ c.before.if-first-2.false
     (λ below. sym (of_form (0xE1 – 0xEC) s (omega arith) (omega arith) (omega arith) _ refl))
     (λ above. sym (of_form (0xEE – 0xEF) s (omega arith) (omega arith) (omega arith) _ refl))
 

@@ -8,13 +8,13 @@ use Rattle.utf8.proofs.Forms.{meeting, of_form, of_none}
 use Rattle.utf8_text.proofs.characters.of_two.Statement.{statement}
 use Rattle.utf8_text.proofs.characters.of_two.Tie as tie
 
-returns : tie.Need-returns
+returns : tie.Need-returns-then-first-lt194
 unfolding forms meeting
 returns c =
     let p = c.before.before.before in
     sym (of_none (0x80 – 0xC1) p.args.s.now (omega (arith, p.requires)) (omega (arith, p.requires)) (omega arith) refl)
 
-returns-2 : tie.Need-returns-2
+returns-2 : tie.Need-returns
 unfolding forms meeting
 returns-2 c =
     let p = c.before.before.before.before in

@@ -9,5 +9,5 @@ two_spec =
     tie.close
     (tie.spec
     (λ c κs. search rules)
-    (λ c. rw (← c.before.among.ensures, c.if1.true))
-    (λ c. rw (← c.before.among.ensures, c.if1.false)))
+    (λ c. rw (← c.before.among.ensures, c.if-among.true))
+    (λ c. rw (← c.before.among.ensures, c.if-among.false)))

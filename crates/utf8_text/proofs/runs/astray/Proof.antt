@@ -13,6 +13,6 @@ astray_spec =
     (λ c κs. search rules)
     (λ c e. absurd (omega (arith, e)))
     (λ c e. absurd (omega (arith, e)))
-    (λ c _. let t = c.before.before in inl (c.before.if2.false, c.if3.false, t.before.tail.ensures.0 t.if1.true))
+    (λ c _. let t = c.before.before in inl (c.before.if-x-lt194.false, c.if-x-gt223.false, t.before.tail.ensures.0 t.if-tail.true))
     (λ c e. absurd (omega (arith, e)))
-    (λ c _. let t = c.before in inr (c.if4.false, t.before.tail.ensures.1 t.if1.false)))
+    (λ c _. let t = c.before in inr (c.if-x-gt191.false, t.before.tail.ensures.1 t.if-tail.false)))

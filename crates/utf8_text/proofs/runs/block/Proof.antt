@@ -7,19 +7,19 @@ use Rattle.utf8_text.proofs.Blocks.{whole, and_a_tail}
 use Rattle.utf8_text.proofs.runs.block.Statement.{statement}
 use Rattle.utf8_text.proofs.runs.block.Tie as tie
 
-a-byte-more : tie.Need-returns-3
+a-byte-more : tie.Need-returns-then-tail-2
 a-byte-more c =
     let j = c.before.before.before in
     let t = j.before.before in
     let a = t.before.before.before.before in
-    and_a_tail a.args.s.now a.requires (j.before.joined.ensures (not-false _ j.if2.false)) (t.before.tail.ensures.1 t.if1.false) (c.before.tail2.ensures.0 c.if3.true)
+    and_a_tail a.args.s.now a.requires (j.before.joined.ensures j.if-not-joined.false) (t.before.tail.ensures.1 t.if-tail.false) (c.before.tail-2.ensures.0 c.if-tail-2.true)
 
-no_more : tie.Need-returns-4
+no_more : tie.Need-returns
 no_more c =
     let j = c.before.before.before in
     let t = j.before.before in
     let a = t.before.before.before.before in
-    whole a.args.s.now a.requires (j.before.joined.ensures (not-false _ j.if2.false)) (t.before.tail.ensures.1 t.if1.false) (c.before.tail2.ensures.1 c.if3.false)
+    whole a.args.s.now a.requires (j.before.joined.ensures j.if-not-joined.false) (t.before.tail.ensures.1 t.if-tail.false) (c.before.tail-2.ensures.1 c.if-tail-2.false)
 
 pub block_spec : {M : Type 1} → statement M
 block_spec =

@@ -10,18 +10,18 @@ use Rattle.utf8_text.specs.Inner.{Joined}
 use Rattle.utf8_text.proofs.runs.joined.Statement.{statement}
 use Rattle.utf8_text.proofs.runs.joined.Tie as tie
 
-abbrev invariant-loop : tie.invariant-loop
+abbrev invariant-loop : tie.invariant-loop-k
 invariant-loop s all₀ k₀ all k = (k ≤ 32) × (all ≡ 0 → Joined k s)
 
-abbrev decreases-loop : tie.decreases-loop
+abbrev decreases-loop : tie.decreases-loop-k
 decreases-loop s all₀ k₀ all k = 32 - k
 
-loop-again : tie.Need-loop-preserved invariant-loop decreases-loop
+loop-again : tie.Need-loop-k-preserved invariant-loop decreases-loop
 loop-again c =
-    let l = c.before.before.before.before.loop in
-    let r = c.astray.result in
+    let l = c.before.before.before.before.loop-k in
+    let r = c.astray-all.result in
     let sum = or_add_and l.all r in
-    (omega arith, λ e. below_more _ l.k (l.invariant.1 (omega (arith, e, sum, and_le_r l.all r))) (c.astray.ensures (omega (arith, e, sum, and_le_l l.all r))))
+    (omega arith, λ e. below_more _ l.k (l.invariant.1 (omega (arith, e, sum, and_le_r l.all r))) (c.astray-all.ensures (omega (arith, e, sum, and_le_l l.all r))))
 
 pub joined_spec : {M : Type 1} → statement M
 joined_spec =
@@ -35,4 +35,4 @@ joined_spec =
     (λ c. omega arith)
     (λ c. omega arith)
     loop-again
-    (λ c e i l. c.before.loop.invariant.1 (eqb-true _ _ e) i (omega arith)))
+    (λ c e i l. c.before.loop-k.invariant.1 (eqb-true _ _ e) i (omega arith)))

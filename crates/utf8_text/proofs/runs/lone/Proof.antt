@@ -7,7 +7,7 @@ use Rattle.utf8_text.proofs.Passing.{none_passes, ascii_passes}
 use Rattle.utf8_text.proofs.runs.lone.Statement.{statement}
 use Rattle.utf8_text.proofs.runs.lone.Tie as tie
 
-one : tie.Need-returns-2
+one : tie.Need-returns
 one c =
     let a = c.before.before in
     ascii_passes 1 a.args.s.now (omega (arith, a.requires.0)) (below_more _ 0 (below_none _) a.requires.1)

@@ -9,7 +9,7 @@ use Rattle.utf8_text.proofs.Passing.{none_passes, character_passes}
 use Rattle.utf8_text.proofs.runs.pair.Statement.{statement}
 use Rattle.utf8_text.proofs.runs.pair.Tie as tie
 
-of_two : tie.Need-returns-4
+of_two : tie.Need-returns
 unfolding forms meeting
 of_two c =
     let s = c.before.before.before.before.before.before.before.before.args.s.now in

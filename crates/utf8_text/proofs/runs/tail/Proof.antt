@@ -10,5 +10,5 @@ pub tail_spec : {M : Type 1} → statement M
 tail_spec =
     tie.close
     (tie.spec
-    (λ c. (λ e. absurd (false≢true e), λ _. inl c.if1.true))
-    (λ c. (λ e. (c.if1.false, leb-true _ _ e), λ e. inr (leb-false _ _ e))))
+    (λ c. (λ e. absurd (false≢true e), λ _. inl c.if-x-lt128.true))
+    (λ c. (λ e. (c.if-x-lt128.false, leb-true _ _ e), λ e. inr (leb-false _ _ e))))

@@ -8,14 +8,14 @@ use Rattle.utf8_text.proofs.Passing.{none_passes, passes_part}
 use Rattle.utf8_text.proofs.runs.triples.Statement.{statement}
 use Rattle.utf8_text.proofs.runs.triples.Tie as tie
 
-abbrev invariant-loop : tie.invariant-loop
+abbrev invariant-loop : tie.invariant-loop-i
 invariant-loop s i₀ i = Passes i s
 
-abbrev decreases-loop : tie.decreases-loop
+abbrev decreases-loop : tie.decreases-loop-i
 decreases-loop s i₀ i = length s - i
 
-loop-again : tie.Need-loop-preserved invariant-loop decreases-loop
-loop-again c = passes_part _ _ _ c.before.before.before.before.loop.invariant c.before.triple.ensures
+loop-again : tie.Need-loop-i-preserved invariant-loop decreases-loop
+loop-again c = passes_part _ _ _ c.before.before.before.before.loop-i.invariant c.before.triple-n.ensures
 
 pub triples_spec : {M : Type 1} → statement M
 triples_spec =
@@ -27,8 +27,8 @@ triples_spec =
     (λ c. omega arith)
     (λ c. omega arith)
     (λ c κs. omega arith)
-    (λ c. c.before.before.before.before.loop.invariant)
+    (λ c. c.before.before.before.before.loop-i.invariant)
     (λ c. omega arith)
     (λ c. omega arith)
     loop-again
-    (λ c. c.before.loop.invariant))
+    (λ c. c.before.loop-i.invariant))
