@@ -154,6 +154,7 @@ module _ (k : ℕ) (document : Reader ℕ) (complete : Complete (Document k) doc
 
 pub document_complete : (k : ℕ) → Complete (Document k) (document_at k)
 unfolding document_at
+document_complete zero at ds rest count n x' h = elim x' [ ]
 document_complete (suc k) at ds rest count n (Document.document {xs} es small) h =
     let w : ℕ = length xs + 5 in
     let whole : List ℕ = le32 w ++ xs ++ 0 ∷ [] ++ rest in

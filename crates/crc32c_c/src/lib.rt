@@ -1,4 +1,6 @@
 // The register and the refreshed checksum for programs in C or Rust. A slice is passed as a pointer and a length.
+#![tactic(auto)]
+
 ghost use Rattle.std.specs.Prelude.{◌≡◌};
 ghost use Rattle.crc32c.specs.Crc.{register_after};
 ghost use Rattle.crc32c_refresh.specs.Refresh.{refreshed};

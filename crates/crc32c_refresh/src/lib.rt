@@ -1,4 +1,6 @@
 // A checksum refreshed without rereading the message, when only its flag word changes.
+#![tactic(auto)]
+
 ghost use Rattle.std.specs.Prelude.{◌≡◌};
 ghost use Rattle.crc32c_refresh.specs.Refresh.{refreshed};
 

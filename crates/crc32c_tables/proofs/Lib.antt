@@ -1,4 +1,4 @@
 pub mod Xor
 pub mod Laws
 pub mod Tabulate
-pub mod Matched
+pub mod Tables

@@ -1,4 +1,5 @@
 // Runs the published vectors of CRC-32C, those of RFC 3720, appendix B.4, among them, and writes each checksum; and one of them refreshed.
+#![tactic(auto)]
 
 // A name, a tab, a checksum in hexadecimal, and the end of the line.
 fn line(name: &[u8], checksum: u32) {

@@ -1,4 +1,6 @@
 // A buffer that is filled again as its bytes are used up.
+#![tactic(auto)]
+
 ghost use Rattle.std.specs.Prelude.{◌≡◌};
 ghost use Rattle.listing_buffer.specs.Front.{to_front};
 

@@ -10,7 +10,7 @@ use Rattle.listing_lines.specs.declared.Summary.{Summary}
 abbrev pub version : ℕ
 version = 2
 
--- `relay_log`, version
+-- `relay-log`, version
 unfoldable pub first_line : (version : ℕ) → List ℕ
 first_line version = line (Words.relay_log ∷ decimal version ∷ [])
 

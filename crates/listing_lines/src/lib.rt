@@ -1,4 +1,6 @@
 // The lines of a listing.
+#![tactic(auto)]
+
 mod fields;
 
 ghost use Rattle.io.specs.Counts.{IsPrefixLen};

@@ -1,4 +1,6 @@
 // Lists the messages that a file or standard input has back to back, as document 01, "The listing", says.
+#![tactic(auto)]
+
 ghost use Rattle.std.specs.Prelude.{◌≡◌, length};
 ghost use Rattle.listing_lines.specs.Lines.{version, first_line, end_line};
 ghost use Rattle.listing.specs.Next.{buffer_length};
@@ -6,10 +8,18 @@ ghost use Rattle.listing.specs.Run.{turn};
 ghost use Rattle.listing.specs.Inner.{Near};
 ghost use Rattle.relay_log.specs.Inner.{held, Lies, Held, Taken, Took};
 
-use libc::{STDERR_FILENO, STDIN_FILENO, STDOUT_FILENO};
 use listing::turns::{start, turn};
 use listing::{Run, Turn};
-use listing_input::fill;
+use listing_input::{fail, fill};
+use std::env::FillError;
+use std::fs::File;
+use std::io::{Error, ErrorKind, Read, Stdout};
+use std::rt::Env;
+
+// The descriptors of standard output and standard error.
+const STDOUT: i32 = 1;
+
+const STDERR: i32 = 2;
 
 // Where the program stands: the bytes at hand are those of the buffer from `at` to `end`, and behind them more may come unless the input
 // has ended.
@@ -30,55 +40,57 @@ struct Shown {
 }
 
 // Writes to standard output; where that fails, standard error says so.
-fn print(text: &[u8]) -> bool {
-    if io::write_all(STDOUT_FILENO, text) {
-        return true;
+fn print(out: Stdout, text: &[u8]) -> bool {
+    match out.write_all(text) {
+        Ok(()) => true,
+        Err(error) => {
+            fail(b"relay_log: standard output", error);
+            false
+        }
     }
-    os::fail(b"relay_log: standard output");
-    false
 }
 
 // Prints the line of a turn, which it asks its caller for: no contract can say what was printed.
-fn print_turn(text: &[u8], run: Run, s: &[u8], ended: bool) -> bool
+fn print_turn(out: Stdout, text: &[u8], run: Run, s: &[u8], ended: bool) -> bool
     requires { text.now ≡ (turn run ended s.now).line }
 {
-    print(text)
+    print(out, text)
 }
 
 // The same of the first line, and of the last.
-fn print_first(text: &[u8]) -> bool
+fn print_first(out: Stdout, text: &[u8]) -> bool
     requires { text.now ≡ first_line version }
 {
-    print(text)
+    print(out, text)
 }
 
-fn print_end(text: &[u8], messages: u64) -> bool
+fn print_end(out: Stdout, text: &[u8], messages: u64) -> bool
     requires { text.now ≡ end_line messages }
 {
-    print(text)
+    print(out, text)
 }
 
 // Takes a turn over the bytes at hand, s, and prints its line.
-fn show(run: Run, s: &[u8], ended: bool) -> Shown
+fn show(out: Stdout, run: Run, s: &[u8], ended: bool) -> Shown
     requires { Near run }
     ensures { Taken (turn run ended s.now) result.turn }
 {
     let mut line = [0u8; 256];
     let t = turn(run, s, ended, &mut line);
     let n = t.line;
-    let printed = print_turn(&line[..n], run, s, ended);
+    let printed = print_turn(out, &line[..n], run, s, ended);
     Shown { turn: t, printed }
 }
 
 // Takes a turn, prints its line, and reads on where it asks for more.
-fn step(fd: i32, buf: &mut [u8], p: Progress) -> Progress
+fn step<R: Read>(input: &mut R, out: Stdout, buf: &mut [u8], p: Progress) -> Progress
     requires { Held p × (buffer_length ≡ length buf.old) }
     ensures took { Took (turn p.run p.ended (held p buf.old)) p buf.old result buf.new }
     ensures lies { Lies result }
 {
     let at = p.at;
     let end = p.end;
-    let shown = show(p.run, &buf[at..end], p.ended);
+    let shown = show(out, p.run, &buf[at..end], p.ended);
     let t = shown.turn;
     let run = t.run;
     let from = at + t.used;
@@ -87,7 +99,7 @@ fn step(fd: i32, buf: &mut [u8], p: Progress) -> Progress
         done = run.done;
     }
     if t.more {
-        let to = fill(fd, buf, from, end, b"relay_log: read");
+        let to = fill(input, buf, from, end, b"relay_log: read");
         return Progress {
             at: 0,
             end: to,
@@ -106,7 +118,7 @@ fn step(fd: i32, buf: &mut [u8], p: Progress) -> Progress
 }
 
 // A proved loop has to end, and nothing says that the input does. So the loop counts its turns down, from a number that no run uses up.
-fn list(fd: i32, buf: &mut [u8]) -> u64
+fn list<R: Read>(input: &mut R, out: Stdout, buf: &mut [u8]) -> u64
     requires { buffer_length ≡ length buf.old }
 {
     let run = start();
@@ -119,7 +131,7 @@ fn list(fd: i32, buf: &mut [u8]) -> u64
     };
     let mut left: u64 = 0x8000_0000_0000;
     while left > 0 {
-        p = step(fd, buf, p);
+        p = step(input, out, buf, p);
         if p.done {
             break;
         }
@@ -128,17 +140,17 @@ fn list(fd: i32, buf: &mut [u8]) -> u64
     p.run.messages
 }
 
-// The whole listing of what a descriptor gives.
-fn list_all(fd: i32) {
+// The whole listing of what an input gives.
+fn list_all<R: Read>(input: &mut R, out: Stdout) {
     let mut line = [0u8; 256];
     let n = relay::first_line(&mut line);
-    if !print_first(&line[..n]) {
+    if !print_first(out, &line[..n]) {
         return;
     }
     let mut space = io::large_buffer();
-    let messages = list(fd, &mut space);
+    let messages = list(input, out, &mut space);
     let m = relay::end_line(&mut line, messages);
-    print_end(&line[..m], messages);
+    print_end(out, &line[..m], messages);
 }
 
 fn help(fd: i32) {
@@ -156,31 +168,41 @@ fn is_option(text: &[u8]) -> bool {
     text[0] == b'-'
 }
 
-// Lists a file by its name.
-fn list_file(name: &[u8]) {
-    if is_option(name) {
-        help(STDOUT_FILENO);
-        return;
+// Opens a file to read it. Paths are UTF-8, so no other name is that of a file.
+fn open(rt: HostRuntime, name: &[u8]) -> Result<File, Error> {
+    match str::from_utf8(name) {
+        Ok(path) => File::open(&rt, path),
+        Err(_) => Err(Error::from(ErrorKind::InvalidFilename)),
     }
-    let fd = os::open_read(name);
-    if fd < 0 {
-        os::fail(name);
-        return;
-    }
-    list_all(fd);
 }
 
-fn main() {
-    let given = os::arg_count();
-    if given <= 1 {
-        list_all(STDIN_FILENO);
+// Lists a file by its name.
+fn list_file(rt: HostRuntime, name: &[u8]) {
+    if is_option(name) {
+        help(STDOUT);
         return;
     }
-    if given > 2 {
-        help(STDERR_FILENO);
+    match open(rt, name) {
+        Ok(mut file) => list_all(&mut file, rt.stdout()),
+        Err(error) => fail(name, error),
+    }
+}
+
+// The program was given so many arguments behind its name, or more.
+fn is_given(rt: HostRuntime, i: usize) -> bool {
+    !matches!(rt.arg(i, &mut [0u8; 1]), Err(FillError::NotPresent))
+}
+
+fn main(rt: HostRuntime) {
+    if !is_given(rt, 1) {
+        list_all(&mut rt.stdin(), rt.stdout());
+        return;
+    }
+    if is_given(rt, 2) {
+        help(STDERR);
         return;
     }
     let mut name = io::buffer();
-    let n = os::arg(1, &mut name);
-    list_file(&name[..n]);
+    let n = rt.arg(1, &mut name).unwrap_or(0);
+    list_file(rt, &name[..n]);
 }

@@ -1,13 +1,23 @@
 // Reads a stored listing, of a file or standard input, and prints its version and its messages, or the refusal.
+#![tactic(auto)]
+
 ghost use Rattle.std.specs.Prelude.{◌≡◌, length};
 ghost use Rattle.listing_check.specs.Inner.{Tells};
 ghost use Rattle.listing_check.specs.declared.Checked.TheVariants.{Done};
 ghost use Rattle.relay_log_check.specs.Inner.{buffer_length, Held, Lies, Went, Further};
 
-use libc::{STDERR_FILENO, STDIN_FILENO, STDOUT_FILENO};
 use listing_check::{Checked, Standing, check};
-use listing_input::fill;
+use listing_input::{fail, fill};
 use relay::Stored;
+use std::env::FillError;
+use std::fs::File;
+use std::io::{Error, ErrorKind, Read, Stdout};
+use std::rt::Env;
+
+// The descriptors of standard output and standard error.
+const STDOUT: i32 = 1;
+
+const STDERR: i32 = 2;
 
 // Where the program stands: the bytes at hand are those of the buffer from `at` to `end`, and behind them more may come unless the input
 // has ended.
@@ -21,41 +31,38 @@ struct Progress {
 }
 
 // Writes two numbers with a tab between them, and a newline.
-fn print_numbers(a: u64, b: u64) -> bool {
-    if !io::print_decimal(STDOUT_FILENO, a) {
-        return false;
-    }
-    if !io::write_all(STDOUT_FILENO, b"\t") {
-        return false;
-    }
-    if !io::print_decimal(STDOUT_FILENO, b) {
-        return false;
-    }
-    io::write_all(STDOUT_FILENO, b"\n")
+fn print_numbers(out: Stdout, a: u64, b: u64) -> Result<(), Error> {
+    println!(out; "{a}\t{b}")
 }
 
 // Writes a word and two numbers; where that fails, standard error says so.
-fn print_line(word: &[u8], a: u64, b: u64) {
-    if io::write_all(STDOUT_FILENO, word) {
-        if print_numbers(a, b) {
-            return;
-        }
+fn print_line(out: Stdout, word: &[u8], a: u64, b: u64) {
+    let printed = match out.write_all(word) {
+        Ok(()) => print_numbers(out, a, b),
+        Err(error) => Err(error),
+    };
+    if let Err(error) = printed {
+        fail(b"relay_log_check: standard output", error);
     }
-    os::fail(b"relay_log_check: standard output");
 }
 
 // Prints what the listing tells, which it asks its caller for: no contract can say what was printed.
-fn print_answer(r: Stored, at: Standing, s: &[u8], ended: bool)
+fn print_answer(out: Stdout, r: Stored, at: Standing, s: &[u8], ended: bool)
     requires { Tells at s.now ended (Done r) }
 {
     match r {
-        Stored::Listing { version, messages } => print_line(b"listing\t", version as u64, messages),
-        Stored::Refused { number, line } => print_line(b"bad\t", number as u64, line),
+        Stored::Listing { version, messages } => print_line(
+            out,
+            b"listing\t",
+            version as u64,
+            messages,
+        ),
+        Stored::Refused { number, line } => print_line(out, b"bad\t", number as u64, line),
     }
 }
 
 // Reads a line, or prints the answer, or reads on where more bytes are wanted.
-fn step(fd: i32, buf: &mut [u8], p: Progress) -> Progress
+fn step<R: Read>(input: &mut R, out: Stdout, buf: &mut [u8], p: Progress) -> Progress
     requires { Held p × (buffer_length ≡ length buf.old) }
     ensures went { Went p buf.old result buf.new }
     ensures further { Lies result × Further p result }
@@ -73,7 +80,7 @@ fn step(fd: i32, buf: &mut [u8], p: Progress) -> Progress
             standing: next,
         },
         Checked::More => {
-            let to = fill(fd, buf, at, end, b"relay_log_check: read");
+            let to = fill(input, buf, at, end, b"relay_log_check: read");
             Progress {
                 at: 0,
                 end: to,
@@ -83,7 +90,7 @@ fn step(fd: i32, buf: &mut [u8], p: Progress) -> Progress
             }
         }
         Checked::Done(r) => {
-            print_answer(r, standing, &buf[at..end], p.ended);
+            print_answer(out, r, standing, &buf[at..end], p.ended);
             Progress {
                 at,
                 end,
@@ -96,7 +103,7 @@ fn step(fd: i32, buf: &mut [u8], p: Progress) -> Progress
 }
 
 // A proved loop has to end, and nothing says that the input does. So the loop counts its turns down, from a number that no run uses up.
-fn read_all(fd: i32, buf: &mut [u8])
+fn read_all<R: Read>(input: &mut R, out: Stdout, buf: &mut [u8])
     requires { buffer_length ≡ length buf.old }
 {
     let mut p = Progress {
@@ -108,7 +115,7 @@ fn read_all(fd: i32, buf: &mut [u8])
     };
     let mut left: u64 = 0x8000_0000_0000;
     while left > 0 {
-        p = step(fd, buf, p);
+        p = step(input, out, buf, p);
         if p.done {
             break;
         }
@@ -116,10 +123,10 @@ fn read_all(fd: i32, buf: &mut [u8])
     }
 }
 
-// Reads the listing that a descriptor gives.
-fn read_from(fd: i32) {
+// Reads the listing that an input gives.
+fn read_from<R: Read>(input: &mut R, out: Stdout) {
     let mut space = io::large_buffer();
-    read_all(fd, &mut space);
+    read_all(input, out, &mut space);
 }
 
 fn help(fd: i32) {
@@ -137,31 +144,41 @@ fn is_option(text: &[u8]) -> bool {
     text[0] == b'-'
 }
 
-// Reads a file by its name.
-fn read_file(name: &[u8]) {
-    if is_option(name) {
-        help(STDOUT_FILENO);
-        return;
+// Opens a file to read it. Paths are UTF-8, so no other name is that of a file.
+fn open(rt: HostRuntime, name: &[u8]) -> Result<File, Error> {
+    match str::from_utf8(name) {
+        Ok(path) => File::open(&rt, path),
+        Err(_) => Err(Error::from(ErrorKind::InvalidFilename)),
     }
-    let fd = os::open_read(name);
-    if fd < 0 {
-        os::fail(name);
-        return;
-    }
-    read_from(fd);
 }
 
-fn main() {
-    let given = os::arg_count();
-    if given <= 1 {
-        read_from(STDIN_FILENO);
+// Reads a file by its name.
+fn read_file(rt: HostRuntime, name: &[u8]) {
+    if is_option(name) {
+        help(STDOUT);
         return;
     }
-    if given > 2 {
-        help(STDERR_FILENO);
+    match open(rt, name) {
+        Ok(mut file) => read_from(&mut file, rt.stdout()),
+        Err(error) => fail(name, error),
+    }
+}
+
+// The program was given so many arguments behind its name, or more.
+fn is_given(rt: HostRuntime, i: usize) -> bool {
+    !matches!(rt.arg(i, &mut [0u8; 1]), Err(FillError::NotPresent))
+}
+
+fn main(rt: HostRuntime) {
+    if !is_given(rt, 1) {
+        read_from(&mut rt.stdin(), rt.stdout());
+        return;
+    }
+    if is_given(rt, 2) {
+        help(STDERR);
         return;
     }
     let mut name = io::buffer();
-    let n = os::arg(1, &mut name);
-    read_file(&name[..n]);
+    let n = rt.arg(1, &mut name).unwrap_or(0);
+    read_file(rt, &name[..n]);
 }

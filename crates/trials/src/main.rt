@@ -1,4 +1,6 @@
 // Document 01's trials T1 to T14, run through the code: each answer is written as a line, and below it the message where one is written.
+#![tactic(auto)]
+
 ghost use Rattle.std.specs.Prelude.{◌≡◌, length};
 
 use relay::{

@@ -12,5 +12,5 @@ unnamed_spec =
     tie.close
     (tie.spec
     (λ c κs. search rules)
-    (λ c. let u = c.before in (sym (halt _ (none_has _ _ u.unlisted.ensures c.if1.true u.before.args.at)), λ n. tt))
-    (λ c. let u = c.before in (sym (go_on _ (one_has _ _ u.unlisted.ensures c.if1.false u.before.args.at).1), λ n. tt)))
+    (λ c. let u = c.before in (sym (halt _ (none_has _ _ u.unlisted.ensures c.if-unlisted.true u.args.at)), λ n. tt))
+    (λ c. let u = c.before in (sym (go_on _ (one_has _ _ u.unlisted.ensures c.if-unlisted.false u.args.at).1), λ n. tt)))

@@ -24,32 +24,31 @@ named : (c : tie.Start) → c.args.n + 1 < length c.args.s.now
 named c = omega (arith, (passed c).named, c.requires.0)
 
 size_is : (c : tie.After-skip) →
-    let s = c.before.before.before.before.before.before.before.before in
+    let s = c in
     s.args.n + 2 + c.skip.result ≡ element_size s.args.s.now
 size_is c =
-    let k = c.before.before.before in
-    let s = k.before.before.before.before.before in
+    let k = c in
+    let s = c.before.before.before.before.before.before in
     let xs = s.args.s.now in
     let p = passed s in
     let v = until_zero (drop 1 xs) + 2 in
     let start : s.args.n + 2 ≡ v = omega (arith, s.requires.0) in
     let part : take (length xs - (s.args.n + 2)) (drop (s.args.n + 2) xs) ≡ drop v xs = rest_part (s.args.n + 2) xs ∙ ap (λ (n : ℕ). drop n xs) start in
-    let e : rule_of k.kind.given.0.0 ≡ p.rule = ok_same (rw k.kind.given.1 at (k.before.before.kind-of.ensures 0) ∙ p.rule_found) in
+    let e : rule_of k.in-Listed.kind ≡ p.rule = ok_same (rw k.in-Listed.is at (k.kind_of.ensures 0) ∙ p.rule_found) in
     let size = (rw part at (c.skip.ensures (0 + v) p.value)) (ap (λ (f : Rule). f (0 + v) (drop v xs)) e ∙ p.kept) in
     omega (arith, start, size, p.is)
 
-add_start : tie.Need-overflow-add-start
+add_start : tie.Need-overflow_add-start
 add_start c = omega (arith, named c.before)
 
-returns : tie.Need-returns
+returns : tie.Need-returns-in_default
 returns c =
-    let k = c.before.before in
-    not_ok (rw c.enum_told.given.1 at (k.kind-of.ensures 0) ∙ (passed k.before.before.before).rule_found)
+    not_ok (rw c.in_default.is at (c.kind_of.ensures 0) ∙ (passed c.before.before.before.before).rule_found)
 
-add-result : tie.Need-overflow-add-result
-add-result c = omega (arith, size_is c, c.before.before.before.before.before.before.before.before.requires.2)
+add-result : tie.Need-overflow_add-result
+add-result c = omega (arith, size_is c, c.requires.2)
 
-returns-2 : tie.Need-returns-2
+returns-2 : tie.Need-returns
 returns-2 c = size_is c
 
 pub element_size_spec : {M : Type 1} → statement M
@@ -62,9 +61,9 @@ element_size_spec =
     (λ c. search rules)
     (λ c. search rules)
     returns
-    (λ c. omega (arith, named c.before.before.before.before.before.before))
-    (λ c. omega (arith, named c.before.before.before.before.before.before))
-    (λ c. omega (arith, named c.before.before.before.before.before.before))
+    (λ c. omega (arith, named c.before.before.before.before))
+    (λ c. omega (arith, named c.before.before.before.before))
+    (λ c. omega (arith, named c.before.before.before.before))
     (λ c κs. search rules)
     add-result
     returns-2)

@@ -11,51 +11,51 @@ use Rattle.listing_buffer.proofs.Front.{moved, moved_length, moved_more}
 use Rattle.listing_buffer.proofs.to_front.Statement.{statement}
 use Rattle.listing_buffer.proofs.to_front.Tie as tie
 
-abbrev invariant-loop : tie.invariant-loop
+abbrev invariant-loop : tie.invariant-loop-i
 invariant-loop s₀ at end n i₀ s i = (at + n ≡ end) × (i ≤ n) × (s ≡ moved at i s₀)
 
-abbrev decreases-loop : tie.decreases-loop
+abbrev decreases-loop : tie.decreases-loop-i
 decreases-loop s₀ at end n i₀ s i = n - i
 
-slice-read-s : tie.Need-slice-read-s invariant-loop decreases-loop
+slice-read-s : tie.Need-bounds-s-at invariant-loop decreases-loop
 slice-read-s c =
     let p2 = c.before.before in
     let p5 = p2.before.before.before in
-    omega (arith, ap length p2.loop.invariant.2, moved_length p5.args.at p2.loop.i p5.args.s.now (omega arith))
+    omega (arith, ap length p2.loop-i.invariant.2, moved_length p5.args.at p2.loop-i.i p5.args.s.now (omega arith))
 
-slice-write-s : tie.Need-slice-write-s invariant-loop decreases-loop
+slice-write-s : tie.Need-bounds-s-i invariant-loop decreases-loop
 slice-write-s c =
     let p2 = c.before.before in
     let p5 = p2.before.before.before in
-    omega (arith, ap length p2.loop.invariant.2, moved_length p5.args.at p2.loop.i p5.args.s.now (omega arith))
+    omega (arith, ap length p2.loop-i.invariant.2, moved_length p5.args.at p2.loop-i.i p5.args.s.now (omega arith))
 
-loop-again : tie.Need-loop-preserved invariant-loop decreases-loop
+loop-again : tie.Need-loop-i-preserved invariant-loop decreases-loop
 loop-again c =
     let p2 = c.before.before in
     let p5 = p2.before.before.before in
-    (p2.loop.invariant.0, omega arith, moved_more p5.args.at p2.loop.i p5.args.s.now (omega arith) _ p2.loop.invariant.2)
+    (p2.loop-i.invariant.0, omega arith, moved_more p5.args.at p2.loop-i.i p5.args.s.now (omega arith) _ p2.loop-i.invariant.2)
 
-same_length : tie.Need-same-length invariant-loop decreases-loop
+same_length : tie.Need-shape_of-s invariant-loop decreases-loop
 same_length c =
     let p4 = c.before.before.before.before in
-    ap length c.before.loop.invariant.2 ∙ moved_length p4.args.at c.before.loop.i p4.args.s.now (omega arith)
+    ap length c.before.loop-i.invariant.2 ∙ moved_length p4.args.at c.before.loop-i.i p4.args.s.now (omega arith)
 
-returns-3 : tie.Need-returns-3 invariant-loop decreases-loop
+returns-3 : tie.Need-returns invariant-loop decreases-loop
 unfolding to_front
 returns-3 c =
     let p2 = c.before.before in
     let p3 = p2.before in
     let p4 = p3.before in
-    let e : p4.args.end - p4.args.at ≡ c.before.loop.i = omega arith in
-    rw (to_front, le-leb _ _ p3.if1.false, le-leb _ _ p2.if2.false, e) c.before.loop.invariant.2
+    let e : p4.args.end - p4.args.at ≡ c.before.loop-i.i = omega arith in
+    rw (to_front, le-leb _ _ p3.if-end-at.false, le-leb _ _ p2.if-s-end.false, e) c.before.loop-i.invariant.2
 
 pub to_front_spec : {M : Type 1} → statement M
 unfolding to_front
 to_front_spec =
     tie.close
     (tie.spec invariant-loop decreases-loop
-    (λ c. rw (to_front, lt-leb _ _ c.if1.true))
-    (λ c. rw (to_front, le-leb _ _ c.before.if1.false, lt-leb _ _ c.if2.true))
+    (λ c. rw (to_front, lt-leb _ _ c.if-end-at.true))
+    (λ c. rw (to_front, le-leb _ _ c.before.if-end-at.false, lt-leb _ _ c.if-s-end.true))
     (λ c. (omega arith, omega arith, refl))
     (λ c. search rules)
     slice-read-s

@@ -11,5 +11,5 @@ checksum_size_spec =
     tie.close
     (tie.spec
     (λ c κs. search rules)
-    (λ c. rw (checksum_size, ← c.before.checksummed.ensures, c.if1.true))
-    (λ c. rw (checksum_size, ← c.before.checksummed.ensures, c.if1.false)))
+    (λ c. rw (checksum_size, ← c.checksummed.ensures, c.if-checksummed.true))
+    (λ c. rw (checksum_size, ← c.checksummed.ensures, c.if-checksummed.false)))

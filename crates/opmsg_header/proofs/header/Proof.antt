@@ -35,51 +35,51 @@ unfolding header word_at
 answers p = answers_alone p
 
 -- the opcode, as the code reads it
-opcode : (c : tie.After-word2) → c.word2.result ≡ word (drop 12 c.before.before.before.before.before.before.before.before.before.args.s.now)
-opcode c = rw rest_part at c.word2.ensures
+opcode : (c : tie.After-word-code) → c.word-code.result ≡ word (drop 12 c.args.s.now)
+opcode c = rw rest_part at c.word-code.ensures
 
-abbrev past_1 : tie.Else1 → Past checks 1
-past_1 c = next (first c.before.before.args.s.now) (le-ltb _ _ c.if1.false)
+abbrev past_1 : tie.Else-s-lt16 → Past checks 1
+past_1 c = next (first c.args.s.now) (le-ltb _ _ c.if-s-lt16.false)
 
-abbrev past_2 : tie.Else2 → Past checks 2
-past_2 c = let u = c.before in next (past_1 u.before.before) (rw (← u.before.word.ensures, ← u.under.ensures) c.if2.false)
+abbrev past_2 : tie.Else-under → Past checks 2
+past_2 c = let u = c.before in next (past_1 u.before.before) (rw (← u.word-n.ensures, ← u.under.ensures) c.if-under.false)
 
-abbrev past_3 : tie.Else3 → Past checks 3
-past_3 c = next (past_2 c.before) (rw (← c.before.before.before.word.ensures) (unfold max_length in le-ltb _ _ c.if3.false))
+abbrev past_3 : tie.Else-n-gt-MAX_LENGTH → Past checks 3
+past_3 c = next (past_2 c.before) (rw (← c.word-n.ensures) (unfold max_length in le-ltb _ _ c.if-n-gt-MAX_LENGTH.false))
 
-abbrev past_4 : tie.Else4 → Past checks 4
-past_4 c = next (past_3 c.before) (rw (← c.before.before.before.before.word.ensures) (le-ltb _ _ c.if4.false))
+abbrev past_4 : tie.Else-s-n → Past checks 4
+past_4 c = next (past_3 c.before) (rw (← c.word-n.ensures) (le-ltb _ _ c.if-s-n.false))
 
-abbrev past_5 : tie.Else5 → Past checks 5
-past_5 c = let o = c.before in next (past_4 o.before.before.before) (rw (← opcode o.before, ← o.older.ensures) c.if5.false)
+abbrev past_5 : tie.Else-older → Past checks 5
+past_5 c = let o = c.before in next (past_4 o.before.before.before) (rw (← opcode o.before, ← o.older.ensures) c.if-older.false)
 
-abbrev past_6 : tie.Else6 → Past checks 6
-past_6 c = next (past_5 c.before) (rw (← opcode c.before.before.before) (ne_eqb _ _ c.if6.false))
+abbrev past_6 : tie.Else-code-eq2012 → Past checks 6
+past_6 c = next (past_5 c.before) (rw (← opcode c.before.before.before) (ne_eqb _ _ c.if-code-eq2012.false))
 
 pub header_spec : {M : Type 1} → statement M
 header_spec =
     tie.close
     (tie.spec
     (λ c κs. search rules)
-    (λ c. rw c.refused.ensures (answers (first _) (lt-ltb _ _ c.before.if1.true)))
+    (λ c. rw c.refused.ensures (answers (first _) (lt-ltb _ _ c.if-s-lt16.true)))
     (λ c κs. search rules)
     (λ c κs. search rules)
     (λ c κs. search rules)
-    (λ c. let u = c.before.before in rw c.refused2.ensures (answers (past_1 u.before.before) (rw (← u.before.word.ensures, ← u.under.ensures) c.before.if2.true)))
+    (λ c. let u = c.before.before in rw c.refused-then-under.ensures (answers (past_1 u.before.before) (rw (← u.word-n.ensures, ← u.under.ensures) c.if-under.true)))
     (λ c κs. search rules)
-    (λ c. let p = c.before.before in rw c.refused3.ensures (answers (past_2 p) (rw (← p.before.before.word.ensures) (unfold max_length in lt-ltb _ _ c.before.if3.true))))
+    (λ c. let p = c.before.before in rw c.refused-then-n-gt-MAX_LENGTH.ensures (answers (past_2 p) (rw (← p.word-n.ensures) (unfold max_length in lt-ltb _ _ c.if-n-gt-MAX_LENGTH.true))))
     (λ c. search rules)
     (λ c κs. search rules)
-    (λ c. let p = c.before.before in rw c.refused4.ensures (answers (past_3 p) (rw (← p.before.before.before.word.ensures) (lt-ltb _ _ c.before.if4.true))))
+    (λ c. let p = c.before.before in rw c.refused-then-s-n.ensures (answers (past_3 p) (rw (← p.word-n.ensures) (lt-ltb _ _ c.if-s-n.true))))
     (λ c. search rules)
     (λ c. search rules)
     (λ c. search rules)
     (λ c κs. search rules)
     (λ c κs. search rules)
     (λ c κs. search rules)
-    (λ c. let o = c.before.before in rw c.refused5.ensures (answers (past_4 o.before.before.before) (rw (← opcode o.before, ← o.older.ensures) c.before.if5.true)))
+    (λ c. let o = c.before.before in rw c.refused-then-older.ensures (answers (past_4 o.before.before.before) (rw (← opcode o.before, ← o.older.ensures) c.if-older.true)))
     (λ c κs. search rules)
-    (λ c. let p = c.before.before in rw c.refused6.ensures (answers (past_5 p) (rw (← opcode p.before.before) (eq-eqb _ _ c.before.if6.true))))
+    (λ c. let p = c.before.before in rw c.refused-then-code-eq2012.ensures (answers (past_5 p) (rw (← opcode p.before.before) (eq-eqb _ _ c.if-code-eq2012.true))))
     (λ c κs. search rules)
-    (λ c. let p = c.before.before in rw c.refused7.ensures (answers (past_6 p) (rw (← opcode p.before.before.before, ne_eqb _ _ c.before.if7.true))))
-    (λ c. let p = c.before in answers (next (past_6 p) (rw (← opcode p.before.before.before, eq-eqb _ _ c.if7.false))) refl))
+    (λ c. let p = c.before.before in rw c.refused-then-code-ne2013.ensures (answers (past_6 p) (rw (← opcode p.before.before.before, ne_eqb _ _ c.if-code-ne2013.true))))
+    (λ c. let p = c.before in answers (next (past_6 p) (rw (← opcode p.before.before.before, eq-eqb _ _ c.if-code-ne2013.false))) refl))

@@ -16,15 +16,15 @@ unfolding one_of
 older_spec =
     tie.close
     (tie.spec
-    (λ c. same c.if1.true)
-    (λ c. same c.if2.true)
-    (λ c. same c.if3.true)
-    (λ c. same c.if4.true)
-    (λ c. same c.if5.true)
-    (λ c. same c.if6.true)
-    (λ c. same c.if7.true)
+    (λ c. same c.if-code-eq1.true)
+    (λ c. same c.if-code-eq2001.true)
+    (λ c. same c.if-code-eq2002.true)
+    (λ c. same c.if-code-eq2004.true)
+    (λ c. same c.if-code-eq2005.true)
+    (λ c. same c.if-code-eq2006.true)
+    (λ c. same c.if-code-eq2007.true)
     (λ c.
-    let p2 = c.before.before in
-    let p3 = p2.before in
-    let p5 = p3.before.before in
-    rw (one_of, ne_eqb _ _ p5.before.if1.false, ne_eqb _ _ p5.if2.false, ne_eqb _ _ p3.before.if3.false, ne_eqb _ _ p3.if4.false, ne_eqb _ _ p2.if5.false, ne_eqb _ _ c.before.if6.false, ne_eqb _ _ c.if7.false)))
+    let p2 = c in
+    let p3 = c in
+    let p5 = c in
+    rw (one_of, ne_eqb _ _ p5.if-code-eq1.false, ne_eqb _ _ p5.if-code-eq2001.false, ne_eqb _ _ p3.if-code-eq2002.false, ne_eqb _ _ p3.if-code-eq2004.false, ne_eqb _ _ p2.if-code-eq2005.false, ne_eqb _ _ c.if-code-eq2006.false, ne_eqb _ _ c.if-code-eq2007.false)))

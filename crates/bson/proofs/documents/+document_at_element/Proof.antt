@@ -60,152 +60,149 @@ document_at_calls t = (refused-reads.Asked, refused-reads.Learnt, frame-reads.As
 abbrev element_calls : ℕ → element-lts.Claims
 element_calls t = (head-reads.Asked, head-reads.Learnt, document_at_below t, document-at.Post, refused-reads.Asked, refused-reads.Learnt)
 
-abbrev invariant-loop : document-at-lts.invariant-loop
+abbrev invariant-loop : document-at-lts.invariant-loop-i
 invariant-loop s at levels count n last i₀ total₀ i total =
     (turns : ℕ) × (4 ≤ i) × (i ≤ last) × (last < length s) × (last - i ≤ turns)
     × (document_at levels at s count ≡ (walk (element (document_at (levels - 1))) turns (at + i) (take (last - i) (drop i s)) total >>= step n))
 
-abbrev decreases-loop : document-at-lts.decreases-loop
+abbrev decreases-loop : document-at-lts.decreases-loop-i
 decreases-loop s at levels count n last i₀ total₀ i total = last - i
 
-document_at_returns : (t : ℕ) → document-at-lts.Need-returns (document_at_calls t) (document_at_at t) document-at.Post invariant-loop decreases-loop
-document_at_returns t c = rw c.refused.ensures (sym (no_level _ _ _ _ c.before.if1.true))
+document_at_returns : (t : ℕ) → document-at-lts.Need-returns-then-levels-eq0 (document_at_calls t) (document_at_at t) document-at.Post invariant-loop decreases-loop
+document_at_returns t c = rw c.refused.ensures (sym (no_level _ _ _ _ c.if-levels-eq0.true))
 
-document_at_frame_requires : (t : ℕ) → document-at-lts.Need-frame-requires (document_at_calls t) (document_at_at t) document-at.Post invariant-loop decreases-loop
-document_at_frame_requires t c κs = c.before.before.requires.1
+document_at_frame_requires : (t : ℕ) → document-at-lts.Need-frame-w-requires (document_at_calls t) (document_at_at t) document-at.Post invariant-loop decreases-loop
+document_at_frame_requires t c κs = c.requires.1
 
-document_at_returns_2 : (t : ℕ) → document-at-lts.Need-returns-2 (document_at_calls t) (document_at_at t) document-at.Post invariant-loop decreases-loop
-document_at_returns_2 t c = let e = c.enum_told.given.1 in ap told e ∙ sym (shut _ _ _ _ c.before.before.frame.ensures _ c.before.before.before.if1.false _ _ e)
+document_at_returns_2 : (t : ℕ) → document-at-lts.Need-returns-in_default (document_at_calls t) (document_at_at t) document-at.Post invariant-loop decreases-loop
+document_at_returns_2 t c = let e = c.in_default.is in ap told e ∙ sym (shut _ _ _ _ c.frame-w.ensures _ c.if-levels-eq0.false _ _ e)
 
-document_at_sub_last : (t : ℕ) → document-at-lts.Need-overflow-sub-last (document_at_calls t) (document_at_at t) document-at.Post invariant-loop decreases-loop
-document_at_sub_last t c = let o = opens _ _ _ _ c.before.before.before.frame.ensures _ c.before.before.before.before.if1.false _ _ c.before.w.given.1 in omega (arith, o.0.low)
+document_at_sub_last : (t : ℕ) → document-at-lts.Need-overflow_sub-last (document_at_calls t) (document_at_at t) document-at.Post invariant-loop decreases-loop
+document_at_sub_last t c = let o = opens _ _ _ _ c.frame-w.ensures _ c.if-levels-eq0.false _ _ c.in-Past.is in omega (arith, o.0.low)
 
-document_at_loop_holds : (t : ℕ) → document-at-lts.Need-loop-init (document_at_calls t) (document_at_at t) document-at.Post invariant-loop decreases-loop
+document_at_loop_holds : (t : ℕ) → document-at-lts.Need-loop-i-init (document_at_calls t) (document_at_at t) document-at.Post invariant-loop decreases-loop
 document_at_loop_holds t c =
-    let o = opens _ _ _ _ c.before.before.before.frame.ensures _ c.before.before.before.before.if1.false _ _ c.before.w.given.1 in
-    (c.before.w.given.0.0, omega arith, omega (arith, o.0.low), omega (arith, o.0.low, o.0.fits), omega arith, o.1)
+    let o = opens _ _ _ _ c.frame-w.ensures _ c.if-levels-eq0.false _ _ c.in-Past.is in
+    (c.in-Past.n, omega arith, omega (arith, o.0.low), omega (arith, o.0.low, o.0.fits), omega arith, o.1)
 
-document_at_returns_3 : (t : ℕ) → document-at-lts.Need-returns-3 (document_at_calls t) (document_at_at t) document-at.Post invariant-loop decreases-loop
+document_at_returns_3 : (t : ℕ) → document-at-lts.Need-returns-in_default-e (document_at_calls t) (document_at_at t) document-at.Post invariant-loop decreases-loop
 document_at_returns_3 t c =
-    let e = c.enum-told2.given.1 in
-    let turn = c.before.before.before.before in
-    let inv = turn.before.loop.invariant in
-    rw (e, inv.5) (sym (halt _ (stops _ _ _ _ _ _ turn.loop-test.true (le_of_lt inv.3) inv.0 inv.4 (sym c.before.before.element.ensures.0 ∙ ap told e))))
+    let e = c.in_default-e.is in
+    let turn = c in
+    let inv = turn.loop-i.invariant in
+    rw (e, inv.5) (sym (halt _ (stops _ _ _ _ _ _ turn.loop-i-test.true (le_of_lt inv.3) inv.0 inv.4 (sym c.element-e.ensures.0 ∙ ap told e))))
 
-document_at_loop_again : (t : ℕ) → document-at-lts.Need-loop-preserved (document_at_calls t) (document_at_at t) document-at.Post invariant-loop decreases-loop
+document_at_loop_again : (t : ℕ) → document-at-lts.Need-loop-i-preserved (document_at_calls t) (document_at_at t) document-at.Post invariant-loop decreases-loop
 document_at_loop_again t c =
-    let e = c.before.e.given in
-    let done = c.before.before.before in
-    let turn = done.before.before in
-    let inv = turn.before.loop.invariant in
-    let size = rw e.1 at done.element.ensures.1 in (
+    let done = c in
+    let turn = c in
+    let inv = turn.loop-i.invariant in
+    let size = rw c.in-Past-e.is at done.element-e.ensures.1 in (
       inv.0 - 1,
       omega (arith, size),
-      omega (arith, size, done.before.element-arg.given.2),
+      omega (arith, size, done.element-arg-1.given.1),
       inv.3,
       omega (arith, size),
-      rw (inv.5, goes_on _ _ _ _ _ _ turn.loop-test.true (le_of_lt inv.3) inv.0 inv.4 e.0.0 e.0.1.0 (sym done.element.ensures.0 ∙ ap told e.1)),
+      rw (inv.5, goes_on _ _ _ _ _ _ turn.loop-i-test.true (le_of_lt inv.3) inv.0 inv.4 c.in-Past-e.size c.in-Past-e.more (sym done.element-e.ensures.0 ∙ ap told c.in-Past-e.is)),
     )
 
-document_at_returns_4 : (t : ℕ) → document-at-lts.Need-returns-4 (document_at_calls t) (document_at_at t) document-at.Post invariant-loop decreases-loop
+document_at_returns_4 : (t : ℕ) → document-at-lts.Need-returns (document_at_calls t) (document_at_at t) document-at.Post invariant-loop decreases-loop
 document_at_returns_4 t c =
-    let inv = c.before.loop.invariant in
-    rw inv.5 (sym (go_on _ (ends _ _ _ _ _ _ inv.0 c.loop-test.false)))
+    let inv = c.loop-i.invariant in
+    rw inv.5 (sym (go_on _ (ends _ _ _ _ _ _ inv.0 c.loop-i-test.false)))
 
 -- what is known of an arm: where the value lies, that the limit is not reached, and that places do not wrap
-plain_arm : (t : ℕ) (c : element-lts.After-start (element_calls t) (element_at t) element-reads.Post)
-    → let a = c.before.before.before.before.args in
-    (2 ≤ c.start.given.0.0) × (c.start.given.0.0 + c.start.given.0.1.0 ≤ length a.s.now) × (a.count < 2 ^ 31)
+plain_arm : (t : ℕ) (c : element-lts.In-Plain (element_calls t) (element_at t) element-reads.Post)
+    → let a = c.args in
+    (2 ≤ c.in-Plain.start) × (c.in-Plain.start + c.in-Plain.size ≤ length a.s.now) × (a.count < 2 ^ 31)
 plain_arm t c =
-    let l = rw c.start.given.1 at c.before.before.head.ensures.1 in
-    (l.0, l.1, few _ _ _ _ (sym c.before.before.head.ensures.0 ∙ ap outline c.start.given.1))
+    let l = rw c.in-Plain.is at c.head.ensures.1 in
+    (l.0, l.1, few _ _ _ _ (sym c.head.ensures.0 ∙ ap outline c.in-Plain.is))
 
-embedded_arm : (t : ℕ) (c : element-lts.After-start2 (element_calls t) (element_at t) element-reads.Post)
-    → let a = c.before.before.before.before.args in
-    (2 ≤ c.start2.given.0.0) × (c.start2.given.0.0 ≤ length a.s.now) × (a.count < 2 ^ 31) × (a.at + length a.s.now < 2 ^ 64)
+embedded_arm : (t : ℕ) (c : element-lts.In-Embedded (element_calls t) (element_at t) element-reads.Post)
+    → let a = c.args in
+    (2 ≤ c.in-Embedded.start) × (c.in-Embedded.start ≤ length a.s.now) × (a.count < 2 ^ 31) × (a.at + length a.s.now < 2 ^ 64)
 embedded_arm t c =
-    let l = rw c.start2.given.1 at c.before.before.head.ensures.1 in
-    (l.0, l.1, few _ _ _ _ (sym c.before.before.head.ensures.0 ∙ ap outline c.start2.given.1), c.before.before.before.before.requires.1.1)
+    let l = rw c.in-Embedded.is at c.head.ensures.1 in
+    (l.0, l.1, few _ _ _ _ (sym c.head.ensures.0 ∙ ap outline c.in-Embedded.is), c.requires.1.1)
 
-scoped_arm : (t : ℕ) (c : element-lts.After-start3 (element_calls t) (element_at t) element-reads.Post)
-    → let a = c.before.before.before.before.args in
-    let v = c.start3.given.0 in
-    (2 ≤ v.0) × (v.1.0 ≤ v.1.1.0) × (v.0 + v.1.1.0 ≤ length a.s.now) × (a.count < 2 ^ 31) × (a.at + length a.s.now < 2 ^ 64)
+scoped_arm : (t : ℕ) (c : element-lts.In-Scoped (element_calls t) (element_at t) element-reads.Post)
+    → let a = c.args in
+    (2 ≤ c.in-Scoped.start) × (c.in-Scoped.from ≤ c.in-Scoped.size) × (c.in-Scoped.start + c.in-Scoped.size ≤ length a.s.now) × (a.count < 2 ^ 31) × (a.at + length a.s.now < 2 ^ 64)
 scoped_arm t c =
-    let l = rw c.start3.given.1 at c.before.before.head.ensures.1 in
-    (l.0, l.1, l.2, few _ _ _ _ (sym c.before.before.head.ensures.0 ∙ ap outline c.start3.given.1), c.before.before.before.before.requires.1.1)
+    let l = rw c.in-Scoped.is at c.head.ensures.1 in
+    (l.0, l.1, l.2, few _ _ _ _ (sym c.head.ensures.0 ∙ ap outline c.in-Scoped.is), c.requires.1.1)
 
 -- an element whose value is a document, or code with one in it, by what the document is
-embedded_element : (t : ℕ) (c : element-lts.After-document-at (element_calls t) (element_at t) element-reads.Post)
-    → let k = c.before.before.before in
-    let a = k.before.before.before.before.args in
-    element (document_at a.levels) a.at a.s.now a.count ≡ (told c.document-at.result >>= λ r. step (k.start2.given.0.0 + r.size) r.state)
+embedded_element : (t : ℕ) (c : element-lts.After-document_at-w (element_calls t) (element_at t) element-reads.Post)
+    → let k = c in
+    let a = k.args in
+    element (document_at a.levels) a.at a.s.now a.count ≡ (told c.document_at-w.result >>= λ r. step (k.in-Embedded.start + r.size) r.state)
 unfolding element inside ◌>>=◌
 embedded_element t c =
-    let k = c.before.before.before in
-    rw (element, ← k.before.before.head.ensures.0, k.start2.given.1, inside, ← rest_part k.start2.given.0.0 k.before.before.before.before.args.s.now, ← c.document-at.ensures)
+    let k = c in
+    rw (element, ← k.head.ensures.0, k.in-Embedded.is, inside, ← rest_part k.in-Embedded.start k.args.s.now, ← c.document_at-w.ensures)
 
-scoped_element : (t : ℕ) (c : element-lts.After-document-at2 (element_calls t) (element_at t) element-reads.Post)
-    → let k = c.before.before.before.before in
-    let a = k.before.before.before.before.args in
-    let v = k.start3.given.0 in
+scoped_element : (t : ℕ) (c : element-lts.After-document_at-w-in-Scoped (element_calls t) (element_at t) element-reads.Post)
+    → let k = c in
+    let a = k.args in
     element (document_at a.levels) a.at a.s.now a.count
-    ≡ ((told c.document-at2.result >>= λ d. refuse 19 (a.at + v.0) (not (eqb (v.1.0 + d.size) v.1.1.0)) >>= λ _. step v.1.1.0 d.state)
-    >>= λ r. step (v.0 + r.size) r.state)
+    ≡ ((told c.document_at-w-in-Scoped.result >>= λ d. refuse 19 (a.at + k.in-Scoped.start) (not (eqb (k.in-Scoped.from + d.size) k.in-Scoped.size)) >>= λ _. step k.in-Scoped.size d.state)
+    >>= λ r. step (k.in-Scoped.start + r.size) r.state)
 unfolding element inside ◌>>=◌
 scoped_element t c =
-    let k = c.before.before.before.before in
-    rw (element, ← k.before.before.head.ensures.0, k.start3.given.1, inside, ← rest_part k.start3.given.0.0 k.before.before.before.before.args.s.now, ← c.document-at2.ensures)
+    let k = c in
+    rw (element, ← k.head.ensures.0, k.in-Scoped.is, inside, ← rest_part k.in-Scoped.start k.args.s.now, ← c.document_at-w-in-Scoped.ensures)
 
 element_head_requires : (t : ℕ) → element-lts.Need-head-requires (element_calls t) (element_at t) element-reads.Post
-element_head_requires t c κs = c.before.requires.1
+element_head_requires t c κs = c.requires.1
 
-element_returns : (t : ℕ) → element-lts.Need-returns (element_calls t) (element_at t) element-reads.Post
+element_returns : (t : ℕ) → element-lts.Need-returns-in_default (element_calls t) (element_at t) element-reads.Post
 unfolding element inside ◌>>=◌ refuse
 element_returns t c =
-    let e = c.enum_told.given.1 in
-    (rw (embedded_element t c.before.before, e), rw e tt)
+    let e = c.in_default.is in
+    (rw (embedded_element t c.before, e), rw e tt)
 
-element_add_t25 : (t : ℕ) → element-lts.Need-overflow-add-t25 (element_calls t) (element_at t) element-reads.Post
+element_add_t25 : (t : ℕ) → element-lts.Need-overflow_add-result-in-Embedded (element_calls t) (element_at t) element-reads.Post
 element_add_t25 t c =
-    let p = document_past _ _ _ _ _ _ _ c.before.before.before.document-at.ensures c.before.w.given.1 in
-    omega (arith, p.fits, embedded_arm t c.before.before.before.before.before.before, c.before.before.before.before.document-at-arg.given.2)
+    let p = document_past _ _ _ _ _ _ _ c.document_at-w.ensures c.in-Past.is in
+    omega (arith, p.fits, embedded_arm t c.before.before.before, c.document_at-arg-1.given.1)
 
-element_returns_2 : (t : ℕ) → element-lts.Need-returns-2 (element_calls t) (element_at t) element-reads.Post
+element_returns_2 : (t : ℕ) → element-lts.Need-returns-in_default-w (element_calls t) (element_at t) element-reads.Post
 unfolding element inside ◌>>=◌ refuse
 element_returns_2 t c =
-    let e = c.enum-told2.given.1 in
-    (rw (scoped_element t c.before.before, e), rw e tt)
+    let e = c.in_default-w.is in
+    (rw (scoped_element t c.before, e), rw e tt)
 
-element_add_if1 : (t : ℕ) → element-lts.Need-overflow-add-if1 (element_calls t) (element_at t) element-reads.Post
+element_add_if1 : (t : ℕ) → element-lts.Need-overflow_add-from (element_calls t) (element_at t) element-reads.Post
 element_add_if1 t c =
-    let p = document_past _ _ _ _ _ _ _ c.before.before.before.document-at2.ensures c.before.w2.given.1 in
-    omega (arith, p.fits, scoped_arm t c.before.before.before.before.before.before.before, c.before.before.before.before.document-at-arg2.given.2)
+    let p = document_past _ _ _ _ _ _ _ c.document_at-w-in-Scoped.ensures c.in-Past-w.is in
+    omega (arith, p.fits, scoped_arm t c.before.before.before.before, c.document_at-arg-in-Scoped-1.given.1)
 
-element_returns_3 : (t : ℕ) → element-lts.Need-returns-3 (element_calls t) (element_at t) element-reads.Post
+element_returns_3 : (t : ℕ) → element-lts.Need-returns-then-from-inner (element_calls t) (element_at t) element-reads.Post
 unfolding element inside ◌>>=◌ refuse
 element_returns_3 t c =
     let e = c.refused.ensures in
-    (rw (e, scoped_element t c.before.before.before.before.before, c.before.before.before.w2.given.1, ne_eqb _ _ c.before.if1.true), rw e tt)
+    (rw (e, scoped_element t c.before.before.before, c.in-Past-w.is, ne_eqb _ _ c.if-from-inner.true), rw e tt)
 
-element_returns_4 : (t : ℕ) → element-lts.Need-returns-4 (element_calls t) (element_at t) element-reads.Post
+element_returns_4 : (t : ℕ) → element-lts.Need-returns-in-Plain (element_calls t) (element_at t) element-reads.Post
 unfolding element inside ◌>>=◌ refuse
-element_returns_4 t c = (rw (element, ← c.before.before.before.head.ensures.0, c.before.start.given.1, inside), omega (arith, plain_arm t c.before))
+element_returns_4 t c = (rw (element, ← c.head.ensures.0, c.in-Plain.is, inside), omega (arith, plain_arm t c))
 
-element_returns_5 : (t : ℕ) → element-lts.Need-returns-5 (element_calls t) (element_at t) element-reads.Post
+element_returns_5 : (t : ℕ) → element-lts.Need-returns-in-Past (element_calls t) (element_at t) element-reads.Post
 unfolding element inside ◌>>=◌ refuse
 element_returns_5 t c =
-    let p = document_past _ _ _ _ _ _ _ c.before.before.before.document-at.ensures c.before.w.given.1 in
-    (rw (embedded_element t c.before.before.before, c.before.w.given.1), omega (arith, p.fits, embedded_arm t c.before.before.before.before.before.before, c.before.before.before.before.document-at-arg.given.2))
+    let p = document_past _ _ _ _ _ _ _ c.document_at-w.ensures c.in-Past.is in
+    (rw (embedded_element t c.before, c.in-Past.is), omega (arith, p.fits, embedded_arm t c.before.before.before, c.document_at-arg-1.given.1))
 
-element_returns_6 : (t : ℕ) → element-lts.Need-returns-6 (element_calls t) (element_at t) element-reads.Post
+element_returns_6 : (t : ℕ) → element-lts.Need-returns-else-from-inner (element_calls t) (element_at t) element-reads.Post
 unfolding element inside ◌>>=◌ refuse
 element_returns_6 t c =
-    (rw (scoped_element t c.before.before.before.before, c.before.before.w2.given.1, eq-eqb _ _ c.if1.false), omega (arith, scoped_arm t c.before.before.before.before.before.before.before.before))
+    (rw (scoped_element t c.before.before, c.in-Past-w.is, eq-eqb _ _ c.if-from-inner.false), omega (arith, scoped_arm t c.before.before.before.before.before))
 
-element_returns_7 : (t : ℕ) → element-lts.Need-returns-7 (element_calls t) (element_at t) element-reads.Post
+element_returns_7 : (t : ℕ) → element-lts.Need-returns-in-Refused (element_calls t) (element_at t) element-reads.Post
 unfolding element ◌>>=◌ refuse
-element_returns_7 t c = (rw (element, ← c.before.before.before.head.ensures.0, c.before.number.given.1), tt)
+element_returns_7 t c = (rw (element, ← c.head.ensures.0, c.in-Refused.is), tt)
 
 pub +document_at_element_spec : {M : Type 1} → statement M
 +document_at_element_spec =
@@ -222,51 +219,51 @@ pub +document_at_element_spec : {M : Type 1} → statement M
     (λ c. omega arith)
     (λ c. omega arith)
     (λ c. omega arith)
-    (λ c. omega (arith, c.before.before.before.before.before.before.before.before.before.requires.1))
+    (λ c. omega (arith, c.requires.1))
     (λ c. omega arith)
-    (λ c κs. omega (arith, c.element-arg.given.2, c.before.before.before.before.before.before.before.before.before.requires))
+    (λ c κs. omega (arith, c.element-arg-1.given.1, c.requires))
     (λ c. search rules)
     (λ c. search rules)
     (document_at_returns_3 t)
-    (λ c. omega (arith, rw c.before.e.given.1 at c.before.before.before.element.ensures.1, c.before.before.before.before.element-arg.given.2))
-    (λ c. omega (arith, rw c.before.e.given.1 at c.before.before.before.element.ensures.1))
+    (λ c. omega (arith, rw c.in-Past-e.is at c.element-e.ensures.1, c.element-arg-1.given.1))
+    (λ c. omega (arith, rw c.in-Past-e.is at c.element-e.ensures.1))
     (document_at_loop_again t)
     (document_at_returns_4 t))
     λ t. element-lts.spec (element_calls t) (element_at t) element-reads.Post
     (element_head_requires t)
     (λ c. search rules)
-    (λ c. omega (arith, plain_arm t c.before))
-    (λ c. omega (arith, plain_arm t c.before))
+    (λ c. omega (arith, plain_arm t c))
+    (λ c. omega (arith, plain_arm t c))
+    (λ c. search rules)
+    (λ c. omega (arith, embedded_arm t c))
+    (λ c. omega (arith, embedded_arm t c))
     (λ c. search rules)
     (λ c. omega (arith, embedded_arm t c.before))
     (λ c. omega (arith, embedded_arm t c.before))
-    (λ c. search rules)
-    (λ c. omega (arith, embedded_arm t c.before.before))
-    (λ c. omega (arith, embedded_arm t c.before.before))
-    (λ c κs. omega (arith, embedded_arm t c.before.before, c.before.before.before.before.before.before.requires.0, c.document-at-arg.given.2))
+    (λ c κs. omega (arith, embedded_arm t c.before, c.requires.0, c.document_at-arg-1.given.1))
     (λ c. search rules)
     (λ c. search rules)
     (element_returns t)
     (element_add_t25 t)
     (λ c. search rules)
-    (λ c. omega (arith, scoped_arm t c.before))
-    (λ c. omega (arith, scoped_arm t c.before))
+    (λ c. omega (arith, scoped_arm t c))
+    (λ c. omega (arith, scoped_arm t c))
     (λ c. search rules)
+    (λ c. omega (arith, scoped_arm t c.before))
+    (λ c. omega (arith, scoped_arm t c.before))
+    (λ c. omega (arith, scoped_arm t c.before, c.rest-1.given.1))
     (λ c. omega (arith, scoped_arm t c.before.before))
     (λ c. omega (arith, scoped_arm t c.before.before))
-    (λ c. omega (arith, scoped_arm t c.before.before, c.rest.given.2))
-    (λ c. omega (arith, scoped_arm t c.before.before.before))
-    (λ c. omega (arith, scoped_arm t c.before.before.before))
-    (λ c. omega (arith, scoped_arm t c.before.before.before))
-    (λ c κs. omega (arith, scoped_arm t c.before.before.before, c.before.before.before.before.before.before.before.requires.0, c.document-at-arg2.given.2, c.before.rest.given.2))
+    (λ c. omega (arith, scoped_arm t c.before.before))
+    (λ c κs. omega (arith, scoped_arm t c.before.before, c.requires.0, c.document_at-arg-in-Scoped-1.given.1, c.rest-1.given.1))
     (λ c. search rules)
     (λ c. search rules)
     (element_returns_2 t)
     (element_add_if1 t)
-    (λ c. omega (arith, scoped_arm t c.before.before.before.before.before.before.before.before))
+    (λ c. omega (arith, scoped_arm t c.before.before.before.before.before))
     (λ c κs. search rules)
     (element_returns_3 t)
-    (λ c. omega (arith, scoped_arm t c.before.before.before.before.before.before.before.before))
+    (λ c. omega (arith, scoped_arm t c.before.before.before.before.before))
     (λ c. search rules)
     (element_returns_4 t)
     (element_returns_5 t)

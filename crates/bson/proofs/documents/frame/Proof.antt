@@ -31,14 +31,14 @@ framed : {k : ℕ} (p : Past checks k) → let a = p.given.args in Answers p (ok
 unfolding frame
 framed p = answers p _
 
-abbrev past_1 : tie.Else1 → Past checks 1
-past_1 c = next (first c.before.before) (le-ltb _ _ c.if1.false)
+abbrev past_1 : tie.Else-s-lt4 → Past checks 1
+past_1 c = next (first c.before.before) (le-ltb _ _ c.if-s-lt4.false)
 
-abbrev past_2 : tie.Else2 → Past checks 2
-past_2 c = let u = c.before in next (past_1 u.before.before) (rw (← u.before.word.ensures, ← u.under.ensures) c.if2.false)
+abbrev past_2 : tie.Else-under → Past checks 2
+past_2 c = let u = c.before in next (past_1 u.before.before) (rw (← u.word-w.ensures, ← u.under.ensures) c.if-under.false)
 
-abbrev past_3 : tie.Else3 → Past checks 3
-past_3 c = next (past_2 c.before) (rw (← c.before.before.before.word.ensures) (le-ltb _ _ c.if3.false))
+abbrev past_3 : tie.Else-s-n → Past checks 3
+past_3 c = next (past_2 c.before) (rw (← c.word-w.ensures) (le-ltb _ _ c.if-s-n.false))
 
 pub frame_spec : {M : Type 1} → statement M
 unfolding ◌>>=◌
@@ -46,21 +46,21 @@ frame_spec =
     tie.close
     (tie.spec
     (λ c κs. search rules)
-    (λ c. rw (c.refused.ensures, ← framed (first c.before.before.before) (lt-ltb _ _ c.before.if1.true)))
+    (λ c. rw (c.refused.ensures, ← framed (first c.before.before.before) (lt-ltb _ _ c.if-s-lt4.true)))
     (λ c κs. search rules)
     (λ c κs. search rules)
     (λ c κs. search rules)
-    (λ c. let u = c.before.before in rw (c.refused2.ensures, ← framed (past_1 u.before.before) (rw (← u.before.word.ensures, ← u.under.ensures) c.before.if2.true)))
+    (λ c. let u = c.before.before in rw (c.refused-then-under.ensures, ← framed (past_1 u.before.before) (rw (← u.word-w.ensures, ← u.under.ensures) c.if-under.true)))
     (λ c. search rules)
     (λ c κs. search rules)
-    (λ c. let p = c.before.before in rw (c.refused3.ensures, ← framed (past_2 p) (rw (← p.before.before.word.ensures) (lt-ltb _ _ c.before.if3.true))))
-    (λ c. let w = c.before.before.before in omega (arith, w.word.ensures, under_false 5 _ (past_2 c.before).passed.1))
+    (λ c. let p = c.before.before in rw (c.refused-then-s-n.ensures, ← framed (past_2 p) (rw (← p.word-w.ensures) (lt-ltb _ _ c.if-s-n.true))))
+    (λ c. let w = c in omega (arith, w.word-w.ensures, under_false 5 _ (past_2 c.before).passed.1))
     (λ c. search rules)
     (λ c. search rules)
     (λ c κs. search rules)
     (λ c.
     let p = c.before.before.before in
-    rw (c.refused4.ensures, p.before.before.before.word.ensures, ← framed (past_3 p) (rw (← p.before.before.before.word.ensures, ne_eqb _ _ c.before.if4.true))))
+    rw (c.refused-then-s-last-ne0.ensures, p.word-w.ensures, ← framed (past_3 p) (rw (← p.word-w.ensures, ne_eqb _ _ c.if-s-last-ne0.true))))
     (λ c.
     let p = c.before.before in
-    rw (p.before.before.before.word.ensures, ← framed (next (past_3 p) (rw (← p.before.before.before.word.ensures, eq-eqb _ _ c.if4.false))) refl)))
+    rw (p.word-w.ensures, ← framed (next (past_3 p) (rw (← p.word-w.ensures, eq-eqb _ _ c.if-s-last-ne0.false))) refl)))

@@ -12,7 +12,7 @@ returns : tie.Need-returns
 returns c =
     let a = c.before.before.args in
     let x = bit_xor a.register a.b in
-    ap₂ (λ h l. bit_xor (bit_xor (x / 256) h) l) c.before.high_half_lem.ensures c.low_half_lem.ensures ∙ sym (byte_halves a.register a.b)
+    ap₂ (λ h l. bit_xor (bit_xor (x / 256) h) l) c.before.high_half.ensures c.low_half.ensures ∙ sym (byte_halves a.register a.b)
 
 pub byte_spec : {M : Type 1} → statement M
 byte_spec =

@@ -6,21 +6,21 @@ use Rattle.crc32c.proofs.Words.{FromTop, top_start, top_turn, top_end}
 use Rattle.crc32c.proofs.parts.near.Statement.{statement}
 use Rattle.crc32c.proofs.parts.near.Tie as tie
 
-abbrev invariant-loop : tie.invariant-loop
+abbrev invariant-loop : tie.invariant-loop-k
 invariant-loop x r₀ k₀ r k = FromTop 0 0 x r k
 
-abbrev decreases-loop : tie.decreases-loop
+abbrev decreases-loop : tie.decreases-loop-k
 decreases-loop x r₀ k₀ r k = k
 
-loop-again : tie.Need-loop-preserved invariant-loop decreases-loop
+loop-again : tie.Need-loop-k-preserved invariant-loop decreases-loop
 loop-again c =
-    let l = c.before.before.before.loop in
-    top_turn 0 0 l.r _ _ _ (l.k - 1) l.k (omega arith) c.before.place.ensures c.near.ensures l.invariant
+    let l = c.before.before.before.loop-k in
+    top_turn 0 0 l.r _ _ _ (l.k - 1) l.k (omega arith) c.before.place.ensures c.near-r.ensures l.invariant
 
 returns : tie.Need-returns invariant-loop decreases-loop
 returns c =
-    let l = c.before.loop in
-    top_end 0 0 _ l.r l.k c.loop-test.false l.invariant
+    let l = c.before.loop-k in
+    top_end 0 0 _ l.r l.k c.loop-k-test.false l.invariant
 
 pub near_spec : {M : Type 1} → statement M
 near_spec =

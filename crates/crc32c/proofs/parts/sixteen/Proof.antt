@@ -17,8 +17,8 @@ returns c =
     let a = bytes.before.args in
     c.far.ensures
     ∙ ap₂ (λ (n w : ℕ). bit_xor n (shift_bits 128 (bit_xor a.register w)))
-    (first.before.near.ensures ∙ ap (shift_bits 64) second.word.ensures) first.word2.ensures
-    ∙ sym (register_words a.register a.s.now bytes.before.requires (λ i. (bytes.shared-slice-known.given i).fits))
+    (first.before.near.ensures ∙ ap (shift_bits 64) second.word.ensures) first.word-2.ensures
+    ∙ sym (register_words a.register a.s.now bytes.before.requires (λ i. (bytes.shared_slice_known-1.given i).fits))
 
 pub sixteen_spec : {M : Type 1} → statement M
 sixteen_spec =

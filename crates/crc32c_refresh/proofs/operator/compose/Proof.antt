@@ -9,26 +9,26 @@ use Rattle.crc32c_refresh.proofs.Turns.{made, compose_turn, compose_end}
 use Rattle.crc32c_refresh.proofs.operator.compose.Statement.{statement}
 use Rattle.crc32c_refresh.proofs.operator.compose.Tie as tie
 
-abbrev invariant-loop : tie.invariant-loop
+abbrev invariant-loop : tie.invariant-loop-i
 invariant-loop m k r₀ i₀ r i = (i ≤ 32) × (r ≡ made m k i)
 
-abbrev decreases-loop : tie.decreases-loop
+abbrev decreases-loop : tie.decreases-loop-i
 decreases-loop m k r₀ i₀ r i = 32 - i
 
-loop-again : tie.Need-loop-preserved invariant-loop decreases-loop
+loop-again : tie.Need-loop-i-preserved invariant-loop decreases-loop
 loop-again c =
     let at = c.before.before in
-    let l = at.loop in
+    let l = at.loop-i in
     let a = at.before in
-    let long : length a.args.t2 ≡ 32 = a.well-formed.1.0.1.0.1 in
-    (omega arith, compose_turn a.args.m a.args.t2 l.r l.i _ (omega arith) l.invariant.1 c.apply.ensures)
+    let long : length a.args.k ≡ 32 = a.well_formed.1.0.1.0.1 in
+    (omega arith, compose_turn a.args.m a.args.k l.r l.i _ (omega arith) l.invariant.1 c.apply.ensures)
 
 returns : tie.Need-returns invariant-loop decreases-loop
 returns c =
-    let l = c.before.loop in
+    let l = c.before.loop-i in
     let a = c.before.before in
-    let long : length a.args.t2 ≡ 32 = a.well-formed.1.0.1.0.1 in
-    l.invariant.1 ∙ compose_end a.args.m a.args.t2 l.i (omega arith)
+    let long : length a.args.k ≡ 32 = a.well_formed.1.0.1.0.1 in
+    l.invariant.1 ∙ compose_end a.args.m a.args.k l.i (omega arith)
 
 pub compose_spec : {M : Type 1} → statement M
 compose_spec =

@@ -8,25 +8,25 @@ use Rattle.crc32c_refresh.proofs.Turns.{Squaring, squaring_turn, squaring_end}
 use Rattle.crc32c_refresh.proofs.operator.squaring.Statement.{statement}
 use Rattle.crc32c_refresh.proofs.operator.squaring.Tie as tie
 
-abbrev invariant-loop : tie.invariant-loop
+abbrev invariant-loop : tie.invariant-loop-left
 invariant-loop n change power₀ left₀ c₀ power left c = Squaring power left c (squaring 64 power₀ n change)
 
-abbrev decreases-loop : tie.decreases-loop
+abbrev decreases-loop : tie.decreases-loop-left
 decreases-loop n change power₀ left₀ c₀ power left c = left
 
-loop-holds : tie.Need-loop-init invariant-loop decreases-loop
+loop-holds : tie.Need-loop-left-init invariant-loop decreases-loop
 loop-holds c = record { turns = 64; enough = c.ranges.n.fits; rest = refl }
 
-loop-again : tie.Need-loop-preserved invariant-loop decreases-loop
+loop-again : tie.Need-loop-left-preserved invariant-loop decreases-loop
 loop-again c =
     let t = c.before in
-    let l = t.before.before.loop in
-    squaring_turn _ l.left _ _ _ _ l.invariant (omega arith) t.turned.ensures c.square.ensures
+    let l = t.before.before.loop-left in
+    squaring_turn _ l.left _ _ _ _ l.invariant (omega arith) t.turned-c.ensures c.square-twice.ensures
 
 returns : tie.Need-returns invariant-loop decreases-loop
 returns c =
-    let l = c.before.before.loop in
-    squaring_end _ l.left _ _ _ l.invariant (omega arith) c.turned2.ensures
+    let l = c.before.before.loop-left in
+    squaring_end _ l.left _ _ _ l.invariant (omega arith) c.turned.ensures
 
 pub squaring_spec : {M : Type 1} → statement M
 squaring_spec =

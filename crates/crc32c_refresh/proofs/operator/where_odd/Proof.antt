@@ -7,7 +7,7 @@ use borrow.Author.Rules.{rules}
 use Rattle.crc32c_refresh.proofs.operator.where_odd.Statement.{statement}
 use Rattle.crc32c_refresh.proofs.operator.where_odd.Tie as tie
 
-mul-result : tie.Need-overflow-mul-result
+mul-result : tie.Need-overflow_mul-result
 mul-result c =
     let a = c.args in
     let few : a.v % 2 ≤ 1 = omega arith in
