@@ -1,5 +1,5 @@
 //! Links the archive `librelay_c.a` from the folder named by RELAY_LIB_DIR,
-//! or from ../target/staticlib where the variable is not set.
+//! or from ../crates/relay_c/out where the variable is not set.
 
 use std::env;
 use std::path::PathBuf;
@@ -8,14 +8,14 @@ fn main() {
     let host = PathBuf::from(env::var_os("CARGO_MANIFEST_DIR").expect("set by cargo"));
     let folder = match env::var_os("RELAY_LIB_DIR") {
         Some(folder) => host.join(folder),
-        None => host.join("../target/staticlib"),
+        None => host.join("../crates/relay_c/out"),
     };
     let archive = folder.join("librelay_c.a");
     println!("cargo:rerun-if-env-changed=RELAY_LIB_DIR");
     println!("cargo:rerun-if-changed={}", archive.display());
     assert!(
         archive.is_file(),
-        "{} is missing: make it with `rt staticlib relay_c`, or name its folder in RELAY_LIB_DIR",
+        "{} is missing: make it with `rt lib` in crates/relay_c, or name its folder in RELAY_LIB_DIR",
         archive.display()
     );
     println!("cargo:rustc-link-search=native={}", folder.display());

@@ -2,7 +2,7 @@
  * crc32c.h - CRC-32C (RFC 4960, appendix B), as an OP_MSG message has it.
  *
  * For C99 or C++11, and later ones. Link with libcrc32c_c.a
- * (`rt staticlib crc32c_c`), which is for x86-64 Linux and needs the C library
+ * (`rt lib` in crates/crc32c_c), which is for x86-64 Linux and needs the C library
  * alone. Calls keep nothing and change nothing that is lent.
  */
 #ifndef CRC32C_H

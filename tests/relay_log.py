@@ -1,14 +1,14 @@
 #!/usr/bin/env python3
-"""Runs target/bin/relay_log on streams that are made here, and compares what it writes byte by byte; target/bin/relay_log_check
+"""Runs crates/relay_log/out/relay_log on streams that are made here, and compares what it writes byte by byte; crates/relay_log_check/out/relay_log_check
 then reads every listing back.
 
 What a line has to say is known from how its message is made: nothing here reads a message.
-Run it at the repository's root, after `rt check`.
+Run it at the repository's root, after `rt ci`, or `rt run` in the folders of both.
 """
 import fcntl, os, random, struct, subprocess, sys, tempfile, termios, threading, time
 
-PROGRAM = 'target/bin/relay_log'
-READER = 'target/bin/relay_log_check'
+PROGRAM = 'crates/relay_log/out/relay_log'
+READER = 'crates/relay_log_check/out/relay_log_check'
 BUFFER = 65536  # the longest message that is read; a longer one is passed over
 LONGEST = 48000000  # the longest message
 

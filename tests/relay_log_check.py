@@ -1,8 +1,8 @@
 #!/usr/bin/env python3
-"""Runs target/bin/relay_log_check on stored listings of both versions, as they should be and damaged, whole and in small parts.
+"""Runs crates/relay_log_check/out/relay_log_check on stored listings of both versions, as they should be and damaged, whole and in small parts.
 
 Its answers are compared with those of `answer` below, a reader written from the text of change request 6 alone.
-Run it at the repository's root, after `rt check`.
+Run it at the repository's root, after `rt ci`, or `rt run` in the folders of both programs.
 """
 import itertools, os, random, re, subprocess, sys, tempfile, time
 

@@ -8,7 +8,7 @@ use std::time::Instant;
 #[path = "../../host/bench/plain.rs"]
 mod plain;
 
-const PROGRAMS: [&str; 3] = ["target/bin/relay_log", "target/listing-plain", "cat"];
+const PROGRAMS: [&str; 3] = ["crates/relay_log/out/relay_log", "target/listing-plain", "cat"];
 const ROUNDS: usize = 9;
 const SIZE: usize = 100_000_000;
 

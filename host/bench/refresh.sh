@@ -5,11 +5,11 @@
 set -eu
 cd "$(dirname "$0")/../.."
 for crate in relay_c crc32c_c; do
-    said=$(rt staticlib "$crate" 2>&1) || { echo "$said"; exit 1; }
+    said=$(cd "crates/$crate" && rt lib 2>&1) || { echo "$said"; exit 1; }
 done
 if [ $# -gt 0 ]; then
     objcopy --redefine-sym relay_forward=before_forward --keep-global-symbol=before_forward \
-        "$1" target/staticlib/librelay_before.a
+        "$1" crates/relay_c/out/librelay_before.a
     RUSTFLAGS="--cfg before"
     export RUSTFLAGS
 fi

@@ -4,7 +4,7 @@
  * message from the body, reads a stored listing and shows four refusals.
  *
  *     gcc -std=c99 -Wall -Wextra -Werror -I.. relay.c \
- *         ../../target/staticlib/librelay_c.a -o relay
+ *         ../../crates/relay_c/out/librelay_c.a -o relay
  */
 #include "relay.h"
 
