@@ -7,9 +7,9 @@ use borrow.Author.Rules.{rules}
 use Rattle.opmsg_identifiers.proofs.elements.Statement.{statement}
 use Rattle.opmsg_identifiers.proofs.elements.Tie as tie
 
-returns : tie.Need-returns
+returns : tie.Need-returns-then-body_length-lt5
 returns c =
-    let none : c.before.before.before.args.body-length - 5 ≡ 0 = omega arith in
+    let none : c.args.body_length - 5 ≡ 0 = omega arith in
     rw none c.part.ensures
 
 pub elements_spec : {M : Type 1} → statement M

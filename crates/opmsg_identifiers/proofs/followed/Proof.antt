@@ -7,8 +7,8 @@ use Rattle.opmsg_dotted.proofs.Follow.{found_plain}
 use Rattle.opmsg_identifiers.proofs.followed.Statement.{statement}
 use Rattle.opmsg_identifiers.proofs.followed.Tie as tie
 
-returns : tie.Need-returns
-returns c = sym (found_plain _ _ (omega (arith, c.before.until-dot.ensures, c.if1.true)) ∙ c.before.before.before.before.requires.1)
+returns : tie.Need-returns-then-until_dot-text
+returns c = sym (found_plain _ _ (omega (arith, c.until_dot.ensures, c.if-until_dot-text.true)) ∙ c.requires.1)
 
 pub followed_spec : {M : Type 1} → statement M
 followed_spec =

@@ -6,16 +6,13 @@ use Rattle.opmsg_body_names.proofs.Elements.{all_names}
 use Rattle.opmsg_identifiers.proofs.met.Statement.{statement}
 use Rattle.opmsg_identifiers.proofs.met.Tie as tie
 
-returns : tie.Need-returns
+returns : tie.Need-returns-then-named
 returns c =
-    let p5 = c.before.before.before.before.before in
-    rw (rw (all_names _ p5.requires.1) at (sym c.before.named.ensures ∙ c.if1.true))
+    rw (rw (all_names _ c.requires.1) at (sym c.named.ensures ∙ c.if-named.true))
 
-returns-2 : tie.Need-returns-2
+returns-2 : tie.Need-returns
 returns-2 c =
-    let p2 = c.before.before in
-    let p6 = p2.before.before.before.before in
-    rw (rw (all_names _ p6.requires.1) at (sym p2.named.ensures ∙ c.before.if1.false)) c.identified.ensures
+    rw (rw (all_names _ c.requires.1) at (sym c.named.ensures ∙ c.if-named.false)) c.identified.ensures
 
 pub met_spec : {M : Type 1} → statement M
 met_spec =

@@ -2,15 +2,15 @@
 -- Assumes nothing.
 use Prim.Native.Nat.{◌-◌}
 use mathlib.Core.Path.{◌≡◌}
-use mathlib.Core.Logic.{⊎_elim}
 use native.Mathlib.Omega.{arith}
 use borrow.Author.Rules.{rules}
 use Rattle.opmsg.specs.Names.{part}
 use Rattle.opmsg_identifiers.proofs.part.Statement.{statement}
+use Rattle.opmsg_identifiers.proofs.part.Lts.{then-place-lt20, else-place-lt20}
 use Rattle.opmsg_identifiers.proofs.part.Tie as tie
 
-start_is : (c : tie.Joined1) → c.if1.start ≡ c.before.before.args.place - 20
-start_is c = ⊎_elim (λ w. omega arith) (λ w. omega arith) c.if1.branch
+start_is : (c : tie.Joined-place-lt20) → c.if-place-lt20.start ≡ c.args.place - 20
+start_is c = elim c.if-place-lt20.branch [ then-place-lt20 w ↦ omega arith | else-place-lt20 w ↦ omega arith ]
 
 returns : tie.Need-returns
 unfolding part

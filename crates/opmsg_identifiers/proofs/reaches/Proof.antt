@@ -10,19 +10,16 @@ use Rattle.opmsg_dotted.proofs.Follow.{found_plain, found_nowhere}
 use Rattle.opmsg_identifiers.proofs.reaches.Statement.{statement}
 use Rattle.opmsg_identifiers.proofs.reaches.Tie as tie
 
-returns : tie.Need-returns
-returns c = sym (found_plain _ _ (omega (arith, c.before.until-dot.ensures, c.if1.true)) ∙ c.before.before.before.before.requires.2)
+returns : tie.Need-returns-then-n-text
+returns c = sym (found_plain _ _ (omega (arith, c.until_dot-n.ensures, c.if-n-text.true)) ∙ c.requires.2)
 
-slice-aggregate-is-marked : tie.Need-slice-aggregate-is-marked
-slice-aggregate-is-marked c = sym (length-take-le _ _ (rw c.before.before.until-dot.ensures (dot_fits _)))
+slice-aggregate-is-marked : tie.Need-slice_bounds-is_marked-end
+slice-aggregate-is-marked c = sym (length-take-le _ _ (rw c.until_dot-n.ensures (dot_fits _)))
 
-returns-3 : tie.Need-returns-3
+returns-3 : tie.Need-returns
 returns-3 c =
-    let d = c.before.before.before in
-    let n = d.before in
-    let s = n.before.before.before in
-    sym (found_nowhere s.args.text.now s.args.elements.now s.requires.0 (omega (arith, n.until-dot.ensures, d.if1.false, dot_fits s.args.text.now))
-    (no_mark _ s.requires.1 (rw n.until-dot.ensures at (sym c.before.is-marked.ensures ∙ c.if2.false))))
+    sym (found_nowhere c.args.text.now c.args.elements.now c.requires.0 (omega (arith, c.until_dot-n.ensures, c.if-n-text.false, dot_fits c.args.text.now))
+    (no_mark _ c.requires.1 (rw c.until_dot-n.ensures at (sym c.is_marked.ensures ∙ c.if-is_marked.false))))
 
 pub reaches_spec : {M : Type 1} → statement M
 reaches_spec =
@@ -31,7 +28,7 @@ reaches_spec =
     (λ c κs. search rules)
     returns
     slice-aggregate-is-marked
-    (λ c κs. c.before.before.before.before.before.requires.1.size)
+    (λ c κs. c.requires.1.size)
     (λ c κs. search rules)
     (λ c. search rules)
     returns-3)

@@ -10,30 +10,20 @@ use Rattle.opmsg_identifiers.proofs.taken.Tie as tie
 
 met-requires : tie.Need-met-requires
 met-requires c κs =
-    let p3 = c.before.before.before in
-    (omega arith, rw c.elements.ensures p3.requires.2)
+    (omega arith, rw c.elements-content.ensures c.requires.2)
 
-returns : tie.Need-returns
+returns : tie.Need-returns-then-met
 returns c =
-    let m = c.before in
-    let x = m.before in
-    let s = x.before.before.before in
-    λ qs sequences h. sym (taken_shown h s.args.xs.now s.requires.2 s.args.text.now ∙ rw (rw x.elements.ensures at (sym m.met.ensures ∙ c.if1.true)))
+    λ qs sequences h. sym (taken_shown h c.args.xs.now c.requires.2 c.args.text.now ∙ rw (rw c.elements-content.ensures at (sym c.met.ensures ∙ c.if-met.true)))
 
 followed-requires : tie.Need-followed-requires
 followed-requires c κs =
-    let m = c.before in
-    let x = m.before in
-    let s = x.before.before.before in
-    (rw x.elements.ensures s.requires.2, (neither _ _ (sym m.met.ensures ∙ c.if1.false)).0)
+    (rw c.elements-content.ensures c.requires.2, (neither _ _ (sym c.met.ensures ∙ c.if-met.false)).0)
 
-returns-2 : tie.Need-returns-2
+returns-2 : tie.Need-returns
 returns-2 c =
-    let m = c.before.before in
-    let x = m.before in
-    let s = x.before.before.before in
-    λ qs sequences h. sym (taken_shown h s.args.xs.now s.requires.2 s.args.text.now
-    ∙ rw (rw x.elements.ensures at (sym m.met.ensures ∙ c.before.if1.false)) (sym (rw x.elements.ensures at c.followed.ensures)))
+    λ qs sequences h. sym (taken_shown h c.args.xs.now c.requires.2 c.args.text.now
+    ∙ rw (rw c.elements-content.ensures at (sym c.met.ensures ∙ c.if-met.false)) (sym (rw c.elements-content.ensures at c.followed.ensures)))
 
 pub taken_spec : {M : Type 1} → statement M
 taken_spec = tie.close (tie.spec (λ c κs. search rules) met-requires returns followed-requires returns-2)
