@@ -9,51 +9,33 @@ use Rattle.opmsg_identifiers.proofs.Kept.{without_sequences, absent, repeated, d
 use Rattle.opmsg_names.proofs.distinct_names.Statement.{statement}
 use Rattle.opmsg_names.proofs.distinct_names.Tie as tie
 
-returns : tie.Need-returns
+returns : tie.Need-returns-then-body-eq0
 returns c =
-    let p3 = c.before.before.before in
-    λ qs s. rw c.refused.ensures (sym (absent s p3.args.xs.now p3.requires.2 _ c.before.if1.true))
+    λ qs s. rw c.refused.ensures (sym (absent s c.args.xs.now c.requires.2 _ c.if-body-eq0.true))
 
-body-names-requires : tie.Need-body-names-requires
+body-names-requires : tie.Need-body_names-names-requires
 unfolding part
-body-names-requires c κs = rw c.before.elements.ensures (c.before.before.before.before.requires.2, simp (length-take, length-drop) (omega arith), refl)
+body-names-requires c κs = rw c.elements-content.ensures (c.requires.2, simp (length-take, length-drop) (omega arith), refl)
 
-returns-2 : tie.Need-returns-2
+returns-2 : tie.Need-returns-in_default
 returns-2 c =
-    let b = c.before.before in
-    let x = b.before.before in
-    let l = x.before in
-    let a = l.before.before in
-    λ qs s. rw c.enum-told2.given.1 (sym (repeated s a.args.xs.now a.requires.2 _ l.if1.false
-    (sym (rw (c.enum-told2.given.1, x.elements.ensures) at b.body-names.ensures.0))))
+    λ qs s. rw c.in_default.is (sym (repeated s c.args.xs.now c.requires.2 _ c.if-body-eq0.false
+    (sym (rw (c.in_default.is, c.elements-content.ensures) at c.body_names-names.ensures.0))))
 
-returns-3 : tie.Need-returns-3
+returns-3 : tie.Need-returns-then-sequences-eq0
 unfolding distinct
 returns-3 c =
-    let b = c.before.before.before in
-    let x = b.before.before in
-    let l = x.before in
-    let a = l.before.before in
-    λ qs s. sym (rw (without_sequences s a.args.xs.now c.if2.true) at (different s a.args.xs.now a.requires.2 a.args.end l.if1.false
-    (sym (rw (c.before.enum_told.given.1, x.elements.ensures) at b.body-names.ensures.0))))
+    λ qs s. sym (rw (without_sequences s c.args.xs.now c.if-sequences-eq0.true) at (different s c.args.xs.now c.requires.2 c.args.end c.if-body-eq0.false
+    (sym (rw (c.in-Accepted.is, c.elements-content.ensures) at c.body_names-names.ensures.0))))
 
-identifiers-differ-requires : tie.Need-identifiers-differ-requires
+identifiers-differ-requires : tie.Need-identifiers_differ-requires
 identifiers-differ-requires c κs =
-    let q = c.before.before in
-    let b = q.before.before in
-    let x = b.before.before in
-    let a = x.before.before.before in
-    (a.requires.0, rw x.elements.ensures a.requires.2, b.body-names.ensures.1.0 q.enum_told.given.1, b.body-names.ensures.1.1)
+    (c.requires.0, rw c.elements-content.ensures c.requires.2, c.body_names-names.ensures.1.0 c.in-Accepted.is, c.body_names-names.ensures.1.1)
 
-returns-4 : tie.Need-returns-4
+returns-4 : tie.Need-returns
 returns-4 c =
-    let q = c.before.before.before in
-    let b = q.before.before in
-    let x = b.before.before in
-    let l = x.before in
-    let a = l.before.before in
-    λ qs s. rw x.elements.ensures at c.identifiers-differ.ensures
-    ∙ sym (different s a.args.xs.now a.requires.2 _ l.if1.false (sym (rw (q.enum_told.given.1, x.elements.ensures) at b.body-names.ensures.0)))
+    λ qs s. rw c.elements-content.ensures at c.identifiers_differ.ensures
+    ∙ sym (different s c.args.xs.now c.requires.2 _ c.if-body-eq0.false (sym (rw (c.in-Accepted.is, c.elements-content.ensures) at c.body_names-names.ensures.0)))
 
 pub distinct_names_spec : {M : Type 1} → statement M
 distinct_names_spec =

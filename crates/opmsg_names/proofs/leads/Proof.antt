@@ -8,16 +8,13 @@ use Rattle.opmsg_dotted.proofs.Follow.{found_plain, found_flat}
 use Rattle.opmsg_names.proofs.leads.Statement.{statement}
 use Rattle.opmsg_names.proofs.leads.Tie as tie
 
-flat : tie.Need-returns
+flat : tie.Need-returns-then-not-nested
 flat c =
-    let s = c.before.before.before in
-    sym (found_flat _ _ (s.requires.2 (not-true _ c.if1.true)) s.requires.3)
+    sym (found_flat _ _ (c.requires.2 c.if-not-nested.true) c.requires.3)
 
-plain : tie.Need-returns-2
+plain : tie.Need-returns-then-undotted
 plain c =
-    let u = c.before in
-    let s = u.before.before.before.before in
-    sym (found_plain _ _ (omega (arith, u.undotted.ensures c.if2.true)) ∙ s.requires.3)
+    sym (found_plain _ _ (omega (arith, c.undotted.ensures c.if-undotted.true)) ∙ c.requires.3)
 
 pub leads_spec : {M : Type 1} → statement M
 leads_spec =
