@@ -2,7 +2,7 @@
 -- Assumes nothing.
 use Prim.Native.Nat.{ℕ, ◌+◌, ◌≤◌}
 use mathlib.Core.Bool.{not}
-use mathlib.Core.Path.{◌≡◌, sym}
+use mathlib.Core.Path.{◌≡◌, sym, ap}
 use mathlib.Core.List.{List, [], ◌∷◌}
 use native.Mathlib.Omega.{arith}
 use lib.ListN.{length}
@@ -41,21 +41,21 @@ unfolding write
 refuses p i j = answers p _
 
 -- the length, as the code adds it up
-size : (c : tie.After-checksum-size) → let s = c.before.before.before.before in (c.checksum-size.result ≤ 4) × (whole s ≡ 21 + c.checksum-size.result + length s.args.body.now)
+size : (c : tie.After-checksum_size) → let s = c.before.before.before.before in (c.checksum_size.result ≤ 4) × (whole s ≡ 21 + c.checksum_size.result + length s.args.body.now)
 unfolding whole_length
-size c = omega (arith, c.checksum-size.ensures, checksum_small c.before.before.before.before.args.flags)
+size c = omega (arith, c.checksum_size.ensures, checksum_small c.args.flags)
 
-abbrev past_1 : tie.Else1 → Past checks 1
-past_1 c = next (first c.before.before.before) (rw (← c.before.all_known.ensures) c.if1.false)
+abbrev past_1 : tie.Else-not-all_known → Past checks 1
+past_1 c = next (first c.before.before.before) (rw (← c.all_known.ensures) (ap not c.if-not-all_known.false))
 
-abbrev past_2 : tie.Else2 → Past checks 2
-past_2 c = let p = past_1 c.before.before in next p (le-ltb max_length (whole p.given) (unfold max_length in omega (arith, c.if2.false, size c.before)))
+abbrev past_2 : tie.Else-around-body → Past checks 2
+past_2 c = let p = past_1 c.before.before in next p (le-ltb max_length (whole p.given) (unfold max_length in omega (arith, c.if-around-body.false, size c.before)))
 
-abbrev past_3 : tie.Else3 → Past checks 3
-past_3 c = next (past_2 c.before) (rw (size c.before.before).1 (le-ltb _ _ c.if3.false))
+abbrev past_3 : tie.Else-room-around → Past checks 3
+past_3 c = next (past_2 c.before) (rw (size c.before.before).1 (le-ltb _ _ c.if-room-around.false))
 
-abbrev past_4 : tie.Else4 → Past checks 4
-past_4 c = next (past_3 c.before) (le-ltb _ _ c.if4.false)
+abbrev past_4 : tie.Else-body-lt4 → Past checks 4
+past_4 c = next (past_3 c.before) (le-ltb _ _ c.if-body-lt4.false)
 
 pub before_reading_spec : {M : Type 1} → statement M
 before_reading_spec =
@@ -63,7 +63,7 @@ before_reading_spec =
     (tie.spec
     (λ c κs. search rules)
     (λ c κs. search rules)
-    (λ c. rw c.refused.ensures (λ i j. sym (refuses (first c.before.before.before.before) i j (rw (← c.before.before.all_known.ensures) c.before.if1.true))))
+    (λ c. rw c.refused.ensures (λ i j. sym (refuses (first c.before.before.before.before) i j (rw (← c.all_known.ensures) (ap not c.if-not-all_known.true)))))
     (λ c κs. search rules)
     (λ c. search rules)
     (λ c. omega (arith, size c))
@@ -72,16 +72,16 @@ before_reading_spec =
     (λ c κs. search rules)
     (λ c.
     let p = past_1 c.before.before.before in
-    rw c.refused2.ensures (λ i j. sym (refuses p i j (lt-ltb max_length (whole p.given) (unfold max_length in omega (arith, c.before.if2.true, size c.before.before))))))
-    (λ c. omega (arith, c.if2.false, size c.before))
+    rw c.refused-then-around-body.ensures (λ i j. sym (refuses p i j (lt-ltb max_length (whole p.given) (unfold max_length in omega (arith, c.if-around-body.true, size c.before.before))))))
+    (λ c. omega (arith, c.if-around-body.false, size c.before))
     (λ c κs. search rules)
-    (λ c. let p = c.before.before in rw c.refused3.ensures (λ i j. sym (refuses (past_2 p) i j (rw (size p.before).1 (lt-ltb _ _ c.before.if3.true)))))
+    (λ c. let p = c.before.before in rw c.refused-then-room-around.ensures (λ i j. sym (refuses (past_2 p) i j (rw (size p.before).1 (lt-ltb _ _ c.if-room-around.true)))))
     (λ c κs. search rules)
-    (λ c. rw c.refused4.ensures (λ i j. sym (refuses (past_3 c.before.before) i j (lt-ltb _ _ c.before.if4.true))))
+    (λ c. rw c.refused-then-body-lt4.ensures (λ i j. sym (refuses (past_3 c.before.before) i j (lt-ltb _ _ c.if-body-lt4.true))))
     (λ c κs. search rules)
     (λ c. search rules)
     (λ c κs. search rules)
-    (λ c. let w = c.before.before in rw c.refused5.ensures (λ i j. sym (refuses (past_4 w.before) i j (rw (← w.word.ensures, ne_eqb _ _ c.before.if5.true)))))
+    (λ c. let w = c.before.before in rw c.refused-then-word-body.ensures (λ i j. sym (refuses (past_4 w.before) i j (rw (← w.word.ensures, ne_eqb _ _ c.if-word-body.true)))))
     (λ c.
     let h = (past_4 c.before.before).passed in
     record {
@@ -89,5 +89,5 @@ before_reading_spec =
       limit = ltb-false _ _ h.0.0.1;
       holds = ltb-false _ _ h.0.1;
       least = ltb-false _ _ h.1;
-      stated = rw (← c.before.word.ensures) c.if5.false;
+      stated = rw (← c.word.ensures) c.if-word-body.false;
     }))

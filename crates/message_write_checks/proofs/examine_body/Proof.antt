@@ -11,36 +11,36 @@ use Rattle.message_write_checks.proofs.Examined.{body_refused, body_filled, body
 use Rattle.message_write_checks.proofs.examine_body.Statement.{statement}
 use Rattle.message_write_checks.proofs.examine_body.Tie as tie
 
-returns : tie.Need-returns
+returns : tie.Need-returns-in_default
 returns c =
-    let p2 = c.before.before in
-    rw c.enum_told.given.1 (sym (body_refused p2.before.before.args.body.now p2.document.result p2.document.ensures c.enum_told.given.1))
+    let p2 = c in
+    rw c.in_default.is (sym (body_refused p2.args.body.now p2.document-w.result p2.document-w.ensures c.in_default.is))
 
 -- the document is as long as it says
-framed : (c : tie.After-known-told) → Framed c.before.before.before.before.before.args.body.now c.before.w.given.0.0
-framed c = let p3 = c.before.before.before in past_framed 21 p3.before.before.args.body.now 0 p3.document.result p3.document.ensures c.before.w.given.1
+framed : (c : tie.In-Past) → Framed c.args.body.now c.in-Past.size
+framed c = let p3 = c in past_framed 21 p3.args.body.now 0 p3.document-w.result p3.document-w.ensures c.in-Past.is
 
-body-names-requires : tie.Need-body-names-requires
+body-names-requires : tie.Need-body_names-names-requires
 body-names-requires c κs =
-    let p3 = c.before.before.before in
-    let p5 = p3.before.before in
-    (body_filled p5.before.before.args.body.now p5.document.result p5.document.ensures p3.w.given.1, rw length-take (omega (arith, (framed c.before.before).small)), refl)
+    let p3 = c in
+    let p5 = c in
+    (body_filled p5.args.body.now p5.document-w.result p5.document-w.ensures p3.in-Past.is, rw length-take (omega (arith, (framed c.before.before).small)), refl)
 
-returns-2 : tie.Need-returns-2
+returns-2 : tie.Need-returns-in-Refused
 unfolding ◌>>=◌
 returns-2 c =
-    let p3 = c.before.before.before in
-    let p7 = p3.before.before.before.before in
-    let p9 = p7.before.before in
-    sym (rw c.before.verdict.given.1 at (body_named_lem p9.before.before.args.body.now p9.document.result p9.document.ensures p7.w.given.1 p3.body-names.result.verdict p3.body-names.ensures.0))
+    let p3 = c in
+    let p7 = c in
+    let p9 = c in
+    sym (rw c.in-Refused.is at (body_named_lem p9.args.body.now p9.document-w.result p9.document-w.ensures p7.in-Past.is p3.body_names-names.result.verdict p3.body_names-names.ensures.0))
 
-returns-3 : tie.Need-returns-3
+returns-3 : tie.Need-returns
 unfolding ◌>>=◌
 returns-3 c =
-    let p2 = c.before.before in
-    let p6 = p2.before.before.before.before in
-    let p8 = p6.before.before in
-    sym (rw c.enum-told2.given.1 at (body_named_lem p8.before.before.args.body.now p8.document.result p8.document.ensures p6.w.given.1 p2.body-names.result.verdict p2.body-names.ensures.0))
+    let p2 = c in
+    let p6 = c in
+    let p8 = c in
+    sym (rw c.in_default-verdict.is at (body_named_lem p8.args.body.now p8.document-w.result p8.document-w.ensures p6.in-Past.is p2.body_names-names.result.verdict p2.body_names-names.ensures.0))
 
 pub examine_body_spec : {M : Type 1} → statement M
 examine_body_spec =
@@ -53,7 +53,7 @@ examine_body_spec =
     (λ c. omega (arith, (framed c).low))
     (λ c. omega (arith, (framed c).low))
     (λ c. omega (arith, (framed c).low))
-    (λ c. omega (arith, (framed c).ranges))
+    (λ c. omega (arith, (framed c).fits))
     body-names-requires
     (λ c. search rules)
     returns-2
