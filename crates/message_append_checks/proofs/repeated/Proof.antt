@@ -7,13 +7,13 @@ use Rattle.message_append_checks.proofs.repeated.Tie as tie
 
 taken-requires : tie.Need-taken-requires
 taken-requires c κs =
-    let p3 = c.before.before.before in
-    let p7 = p3.before.before.before.before in
-    (p7.requires.2, omega arith, rw p3.body.ensures p7.requires.3)
+    let p3 = c in
+    let p7 = c in
+    (p7.requires.2, omega arith, rw p3.body-range.ensures p7.requires.3)
 
 returns : tie.Need-returns
 returns c =
-    let b = c.before.before.before.before.body.ensures in
+    let b = c.body-range.ensures in
     λ qs sequences s. c.taken.ensures qs sequences (rw (← b) at s)
 
 pub repeated_spec : {M : Type 1} → statement M

@@ -7,10 +7,10 @@ use Rattle.opmsg.specs.Inner.{judged}
 use Rattle.message_append_checks.proofs.checks.before_documents.Statement.{statement}
 use Rattle.message_append_checks.proofs.checks.before_documents.Tie as tie
 
-refused : tie.Need-returns
+refused : tie.Need-returns-in_default
 refused c =
-    let e = ap judged c.enum-told2.given.1 in
-    e ∙ sym (halt _ (sym c.before.before.between-readings.ensures ∙ e))
+    let e = ap judged c.in_default.is in
+    e ∙ sym (halt _ (sym c.between_readings-passed.ensures ∙ e))
 
 pub before_documents_spec : {M : Type 1} → statement M
 before_documents_spec =
@@ -22,4 +22,4 @@ before_documents_spec =
     refused
     (λ c. search rules)
     (λ c κs. search rules)
-    (λ c. let t = c.before in c.named.ensures ∙ sym (go_on _ (sym t.before.before.between-readings.ensures ∙ ap judged t.enum_told.given.1))))
+    (λ c. let t = c in c.named.ensures ∙ sym (go_on _ (sym t.between_readings-passed.ensures ∙ ap judged t.in-Accepted.is))))

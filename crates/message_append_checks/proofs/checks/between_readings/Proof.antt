@@ -38,23 +38,23 @@ answers : {k : ℕ} (p : Past checks k) → let a = p.given.args in Answers p (o
 unfolding allowed knows
 answers p = answers_alone p
 
-abbrev past_1 : tie.Else1 → Past checks 1
-past_1 c = next (first c.before.before.before) c.if1.false
+abbrev past_1 : tie.Else-not-e → Past checks 1
+past_1 c = next (first c.before.before.before) c.if-not-e.false
 
-abbrev past_2 : tie.Else2 → Past checks 2
-past_2 c = next (past_1 c.before) (unfold max_sequences in lt-leb _ _ c.if2.false)
+abbrev past_2 : tie.Else-count-ge-MAX_SEQUENCES → Past checks 2
+past_2 c = next (past_1 c.before) (unfold max_sequences in lt-leb _ _ c.if-count-ge-MAX_SEQUENCES.false)
 
-abbrev past_3 : tie.Else3 → Past checks 3
-past_3 c = next (past_2 c.before) (ne_eqb _ _ c.if3.false)
+abbrev past_3 : tie.Else-n-eq0 → Past checks 3
+past_3 c = next (past_2 c.before) (ne_eqb _ _ c.if-n-eq0.false)
 
-abbrev past_4 : tie.Else4 → Past checks 4
-past_4 c = next (past_3 c.before.before) (rw (← c.before.until-zero.ensures) (le-ltb _ _ c.if4.false))
+abbrev past_4 : tie.Else-until_zero-n → Past checks 4
+past_4 c = next (past_3 c.before.before) (rw (← c.until_zero.ensures) (le-ltb _ _ c.if-until_zero-n.false))
 
-abbrev past_5 : tie.Else5 → Past checks 5
-past_5 c = next (past_4 c.before.before) (sym c.before.too_long.ensures ∙ c.if5.false)
+abbrev past_5 : tie.Else-too_long → Past checks 5
+past_5 c = next (past_4 c.before.before) (sym c.too_long.ensures ∙ c.if-too_long.false)
 
 -- the limit is not passed
-short : (c : tie.Else5) → whole (past_5 c).given ≤ max_length
+short : (c : tie.Else-too_long) → whole (past_5 c).given ≤ max_length
 short c = ltb-false _ _ (past_5 c).passed.1
 
 pub between_readings_spec : {M : Type 1} → statement M
@@ -62,22 +62,22 @@ between_readings_spec =
     tie.close
     (tie.spec
     (λ c κs. search rules)
-    (λ c. rw c.refused.ensures (answers (first c.before.before.before.before) c.before.if1.true))
+    (λ c. rw c.refused.ensures (answers (first c.before.before.before.before) c.if-not-e.true))
     (λ c κs. search rules)
-    (λ c. rw c.refused2.ensures (answers (past_1 c.before.before) (unfold max_sequences in le-leb _ _ c.before.if2.true)))
+    (λ c. rw c.refused-then-count-ge-MAX_SEQUENCES.ensures (answers (past_1 c.before.before) (unfold max_sequences in le-leb _ _ c.if-count-ge-MAX_SEQUENCES.true)))
     (λ c. search rules)
     (λ c κs. search rules)
-    (λ c. rw c.refused3.ensures (answers (past_2 c.before.before) (eq-eqb _ _ c.before.if3.true)))
+    (λ c. rw c.refused-then-n-eq0.ensures (answers (past_2 c.before.before) (eq-eqb _ _ c.if-n-eq0.true)))
     (λ c κs. search rules)
     (λ c. search rules)
     (λ c κs. search rules)
-    (λ c. let u = c.before.before in rw c.refused4.ensures (answers (past_3 u.before) (rw (← u.until-zero.ensures) (lt-ltb _ _ c.before.if4.true))))
+    (λ c. let u = c.before.before in rw c.refused-then-until_zero-n.ensures (answers (past_3 u.before) (rw (← u.until_zero.ensures) (lt-ltb _ _ c.if-until_zero-n.true))))
     (λ c κs. search rules)
     (λ c κs. search rules)
-    (λ c. let l = c.before.before in rw c.refused5.ensures (answers (past_4 l.before) (sym l.too_long.ensures ∙ c.before.if5.true)))
+    (λ c. let l = c.before.before in rw c.refused-then-too_long.ensures (answers (past_4 l.before) (sym l.too_long.ensures ∙ c.if-too_long.true)))
     (λ c. search rules)
     (λ c. unfold max_length in omega (arith, short c))
     (λ c. unfold max_length in omega (arith, short c))
     (λ c κs. search rules)
-    (λ c. rw c.refused6.ensures (answers (past_5 c.before.before) (lt-ltb _ _ c.before.if6.true)))
-    (λ c. answers (next (past_5 c.before) (le-ltb _ _ c.if6.false)) refl))
+    (λ c. rw c.refused-then-room-old.ensures (answers (past_5 c.before.before) (lt-ltb _ _ c.if-room-old.true)))
+    (λ c. answers (next (past_5 c.before) (le-ltb _ _ c.if-room-old.false)) refl))

@@ -15,5 +15,5 @@ named_spec =
     (λ c κs. search rules)
     (λ c. search rules)
     (λ c κs. search rules)
-    (λ c. let t = c.before in rw (c.refused.ensures, text_at, ← t.before.well-formed-2.ensures, lt-ltb _ _ t.if1.true))
-    (λ c. rw (text_at, ← c.before.well-formed-2.ensures, le-ltb _ _ c.if1.false)))
+    (λ c. let t = c in rw (c.refused.ensures, text_at, ← t.well_formed-n.ensures, lt-ltb _ _ t.if-n-identifier.true))
+    (λ c. rw (text_at, ← c.well_formed-n.ensures, le-ltb _ _ c.if-n-identifier.false)))

@@ -9,10 +9,10 @@ use Rattle.opmsg.specs.Layout.{max_length}
 use Rattle.message_append_checks.proofs.checks.too_long.Statement.{statement}
 use Rattle.message_append_checks.proofs.checks.too_long.Tie as tie
 
-returns-2 : tie.Need-returns-2
+returns-2 : tie.Need-returns-then-limit-d
 unfolding max_length
 returns-2 c =
-    let p2 = c.before.before in
+    let p2 = c in
     sym (lt-ltb max_length (p2.args.old + (p2.args.n + 6 + p2.args.d)) (omega arith))
 
 pub too_long_spec : {M : Type 1} → statement M
@@ -21,7 +21,7 @@ too_long_spec =
     tie.close
     (tie.spec
     (λ c. search rules)
-    (λ c. sym (lt-ltb max_length (c.before.args.old + (c.before.args.n + 6 + c.before.args.d)) (omega arith)))
+    (λ c. sym (lt-ltb max_length (c.args.old + (c.args.n + 6 + c.args.d)) (omega arith)))
     returns-2
     (λ c. search rules)
     (λ c. search rules)
