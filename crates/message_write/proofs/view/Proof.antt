@@ -15,4 +15,4 @@ view_spec =
     (tie.spec
     (λ c κs. search rules)
     (λ c. search rules)
-    (λ c. rw (c.no-entries.ensures, to_z-of_z c.before.ranges.request-id, to_z-of_z c.before.ranges.response-to)))
+    (λ c. rw (c.no_entries-entries.ensures, to_z-of_z c.ranges.request_id, to_z-of_z c.ranges.response_to)))

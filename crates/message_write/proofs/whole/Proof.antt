@@ -13,5 +13,5 @@ whole_spec =
     (λ c. search rules)
     (λ c. search rules)
     (λ c κs. search rules)
-    (λ c. omega (arith, c.checksum-size.ensures, checksum_small c.before.args.flags))
+    (λ c. omega (arith, c.checksum_size.ensures, checksum_small c.args.flags))
     (λ c. search rules))
