@@ -17,7 +17,6 @@ use Rattle.listing_lines.specs.Decimal.{digits, decimal, signed_decimal}
 use Rattle.listing_fields.specs.Numbers.{spelled, spelled_signed, is_signed32, number, between, exactly, signed_number}
 use Rattle.listing_fields.specs.Inner.{numbered, is_right}
 use Rattle.listing_fields.specs.declared.Number.{Number}
-use Rattle.listing_fields.specs.declared.Number.TheVariants as Number
 
 pub spelled_next : (n : ℕ) (f : List ℕ) (i : ℕ) → i < length f → spelled n (drop i f) ≡ spelled (10 * n + (get_or f i 0 - 48)) (drop (i + 1) f)
 unfolding spelled

@@ -1,6 +1,6 @@
 -- The fields of a stored line and the numbers in them. k is the line's number: a field that is not what it should be is refused with 38 at k.
 -- Assumes nothing: these are definitions.
-use Rattle.std.specs.Prelude.{ℕ, zero, suc, ◌+◌, ◌-◌, ◌*◌, ◌^◌, Bool, true, false, not, List, [], ◌∷◌, length, get_or, drop, ℤ, pos, negsuc, neg_ℤ, eqb, leb, ltb}
+use Rattle.std.specs.Prelude.{ℕ, zero, suc, ◌+◌, ◌-◌, ◌*◌, ◌^◌, Bool, true, false, not, List, [], ◌∷◌, get_or, drop, ℤ, pos, negsuc, neg_ℤ, eqb, leb, ltb}
 use Rattle.wire.specs.Outcome.{Outcome, ok, refuse, ◌>>=◌}
 use Rattle.opmsg.specs.Names.{same_text}
 use Rattle.listing_lines.specs.Decimal.{decimal, signed_decimal}

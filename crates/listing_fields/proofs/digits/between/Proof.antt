@@ -7,32 +7,32 @@ use Rattle.listing_fields.proofs.Spelling.{between_none, between_under, between_
 use Rattle.listing_fields.proofs.digits.between.Statement.{statement}
 use Rattle.listing_fields.proofs.digits.between.Tie as tie
 
-returns : tie.Need-returns
+returns : tie.Need-returns-in_default
 returns c = λ k.
-    let p2 = c.before.before in
-    let args = p2.before.before.args in
-    between_none k args.least args.most args.f.now (p2.number.ensures k ∙ ap (numbered k) c.enum_told.given.1)
+    let p2 = c in
+    let args = p2.args in
+    between_none k args.least args.most args.f.now (p2.number-found.ensures k ∙ ap (numbered k) c.in_default.is)
 
-returns-2 : tie.Need-returns-2
+returns-2 : tie.Need-returns-then-n-least
 returns-2 c = λ k.
-    let p2 = c.before.before in
-    let p4 = p2.before.before in
-    let args = p4.before.before.args in
-    between_under k args.least args.most args.f.now p2.found.given.0.0 (p4.number.ensures k ∙ ap (numbered k) p2.found.given.1) c.if1.true
+    let p2 = c in
+    let p4 = c in
+    let args = p4.args in
+    between_under k args.least args.most args.f.now p2.in-Is.n (p4.number-found.ensures k ∙ ap (numbered k) p2.in-Is.is) c.if-n-least.true
 
-returns-3 : tie.Need-returns-3
+returns-3 : tie.Need-returns-then-most-n
 returns-3 c = λ k.
-    let p3 = c.before.before.before in
-    let p5 = p3.before.before in
-    let args = p5.before.before.args in
-    between_over k args.least args.most args.f.now p3.found.given.0.0 (p5.number.ensures k ∙ ap (numbered k) p3.found.given.1) c.before.if1.false c.if2.true
+    let p3 = c in
+    let p5 = c in
+    let args = p5.args in
+    between_over k args.least args.most args.f.now p3.in-Is.n (p5.number-found.ensures k ∙ ap (numbered k) p3.in-Is.is) c.if-n-least.false c.if-most-n.true
 
-returns-4 : tie.Need-returns-4
+returns-4 : tie.Need-returns
 returns-4 c = λ k.
-    let p3 = c.before.before.before in
-    let p5 = p3.before.before in
-    let args = p5.before.before.args in
-    between_is k args.least args.most args.f.now p3.found.given.0.0 (p5.number.ensures k ∙ ap (numbered k) p3.found.given.1) c.before.if1.false c.if2.false
+    let p3 = c in
+    let p5 = c in
+    let args = p5.args in
+    between_is k args.least args.most args.f.now p3.in-Is.n (p5.number-found.ensures k ∙ ap (numbered k) p3.in-Is.is) c.if-n-least.false c.if-most-n.false
 
 pub between_spec : {M : Type 1} → statement M
 between_spec =

@@ -10,7 +10,7 @@ use Rattle.listing_fields.proofs.digits.is_between.Tie as tie
 
 returns : tie.Need-returns
 returns c = λ k.
-    tells k c.before.between.result (c.before.between.ensures k) ∙ ap (λ (b : Bool). refuse 38 k (not b)) (sym c.right.ensures)
+    tells k c.between.result (c.between.ensures k) ∙ ap (λ (b : Bool). refuse 38 k (not b)) (sym c.right.ensures)
 
 pub is_between_spec : {M : Type 1} → statement M
 is_between_spec = tie.close (tie.spec (λ c κs. search rules) (λ c κs. search rules) returns)

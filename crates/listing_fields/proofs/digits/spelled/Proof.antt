@@ -10,49 +10,49 @@ use Rattle.listing_fields.proofs.Spelling.{spelled_next, spelled_end, spelled_mo
 use Rattle.listing_fields.proofs.digits.spelled.Statement.{statement}
 use Rattle.listing_fields.proofs.digits.spelled.Tie as tie
 
-abbrev invariant-loop : tie.invariant-loop
+abbrev invariant-loop : tie.invariant-loop-i
 invariant-loop f n₀ i₀ n i = (i ≤ length f) × (n < 2 ^ 64) × (spelled 0 f ≡ spelled n (drop i f))
 
-abbrev decreases-loop : tie.decreases-loop
+abbrev decreases-loop : tie.decreases-loop-i
 decreases-loop f n₀ i₀ n i = length f - i
 
 -- with the digit at i
-more : (c : tie.After-digit invariant-loop decreases-loop) → let p3 = c.before.before.before in
-    spelled 0 p3.before.before.args.f.now ≡ spelled (10 * p3.loop.n + c.digit.result) (drop (p3.loop.i + 1) p3.before.before.args.f.now)
+more : (c : tie.After-digit-d invariant-loop decreases-loop) → let p3 = c in
+    spelled 0 p3.args.f.now ≡ spelled (10 * p3.loop-i.n + c.digit-d.result) (drop (p3.loop-i.i + 1) p3.args.f.now)
 more c =
-    let p3 = c.before.before.before in
-    let f = p3.before.before.args.f.now in
-    rw c.digit.ensures (p3.loop.invariant.2 ∙ spelled_next p3.loop.n f p3.loop.i c.before.before.loop-test.true)
+    let p3 = c in
+    let f = p3.args.f.now in
+    rw c.digit-d.ensures (p3.loop-i.invariant.2 ∙ spelled_next p3.loop-i.n f p3.loop-i.i c.loop-i-test.true)
 
 -- and what it spells at least
-least : (c : tie.After-digit invariant-loop decreases-loop) → let p3 = c.before.before.before in
-    10 * p3.loop.n + c.digit.result ≤ spelled 0 p3.before.before.args.f.now
+least : (c : tie.After-digit-d invariant-loop decreases-loop) → let p3 = c in
+    10 * p3.loop-i.n + c.digit-d.result ≤ spelled 0 p3.args.f.now
 least c =
-    let p3 = c.before.before.before in
-    let f = p3.before.before.args.f.now in
-    rw (more c) (spelled_more (10 * p3.loop.n + c.digit.result) (drop (p3.loop.i + 1) f))
+    let p3 = c in
+    let f = p3.args.f.now in
+    rw (more c) (spelled_more (10 * p3.loop-i.n + c.digit-d.result) (drop (p3.loop-i.i + 1) f))
 
-small : (c : tie.After-digit invariant-loop decreases-loop) → c.digit.result < 256
+small : (c : tie.After-digit-d invariant-loop decreases-loop) → c.digit-d.result < 256
 small c =
-    let p3 = c.before.before.before in
-    omega (arith, c.digit.ensures, c.before.shared-slice-known2.given p3.loop.i)
+    let p3 = c in
+    omega (arith, c.digit-d.ensures, c.shared_slice_known-in-loop-i-1.given p3.loop-i.i)
 
-loop-holds : tie.Need-loop-init invariant-loop decreases-loop
+loop-holds : tie.Need-loop-i-init invariant-loop decreases-loop
 loop-holds c = (omega arith, omega arith, refl)
 
-returns : tie.Need-returns invariant-loop decreases-loop
+returns : tie.Need-returns-then-n-gt-TENTH invariant-loop decreases-loop
 returns c = omega (arith, least c.before)
 
-returns-2 : tie.Need-returns-2 invariant-loop decreases-loop
+returns-2 : tie.Need-returns-then-d-n invariant-loop decreases-loop
 returns-2 c = omega (arith, least c.before.before, small c.before.before)
 
-loop-again : tie.Need-loop-preserved invariant-loop decreases-loop
+loop-again : tie.Need-loop-i-preserved invariant-loop decreases-loop
 loop-again c = (omega arith, omega (arith, small c.before.before), more c.before.before)
 
-returns-3 : tie.Need-returns-3 invariant-loop decreases-loop
+returns-3 : tie.Need-returns invariant-loop decreases-loop
 returns-3 c =
-    let p1 = c.before in
-    omega (arith, p1.loop.invariant.2, spelled_end p1.loop.n p1.before.before.args.f.now p1.loop.i c.loop-test.false)
+    let p1 = c in
+    omega (arith, p1.loop-i.invariant.2, spelled_end p1.loop-i.n p1.args.f.now p1.loop-i.i c.loop-i-test.false)
 
 pub spelled_spec : {M : Type 1} → statement M
 spelled_spec =

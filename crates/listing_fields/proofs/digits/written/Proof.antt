@@ -9,9 +9,9 @@ use Rattle.listing_fields.proofs.digits.written.Tie as tie
 
 returns : tie.Need-returns
 returns c =
-    let p2 = c.before.before in
-    let said = p2.decimal.ensures in
-    c.same.ensures ∙ ap (same_text p2.before.before.before.args.f.now) (said.1.1 ∙ spelled_decimal _ _ said.1.0)
+    let p2 = c in
+    let said = p2.decimal-k.ensures in
+    c.same.ensures ∙ ap (same_text p2.args.f.now) (said.1.1.0 ∙ spelled_decimal _ _ said.1.0)
 
 pub written_spec : {M : Type 1} → statement M
 written_spec =

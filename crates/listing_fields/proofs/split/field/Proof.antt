@@ -1,6 +1,6 @@
 -- `crate::split::field` meets its contract. The loop's invariant: the field is field `left` of what stands from place `at` on.
 -- Assumes nothing.
-use Prim.Native.Nat.{◌≤◌, ◌+◌, ◌-◌}
+use Prim.Native.Nat.{◌≤◌, ◌+◌}
 use native.Mathlib.Omega.{arith}
 use mathlib.Core.Path.{◌≡◌, refl, sym, ◌∙◌}
 use lib.ListN.{length, drop, length-drop}
@@ -13,44 +13,44 @@ use Rattle.listing_fields.proofs.Splitting.{until_le, field_past, field_none, fi
 use Rattle.listing_fields.proofs.split.field.Statement.{statement}
 use Rattle.listing_fields.proofs.split.field.Tie as tie
 
-abbrev invariant-loop : tie.invariant-loop
+abbrev invariant-loop : tie.invariant-loop-left
 invariant-loop l i at₀ left₀ at left = (at ≤ length l) × (field i (fields_of l) ≡ field left (fields_of (drop at l)))
 
-abbrev decreases-loop : tie.decreases-loop
+abbrev decreases-loop : tie.decreases-loop-left
 decreases-loop l i at₀ left₀ at left = left
 
-found : (c : tie.After-until invariant-loop decreases-loop) → let p3 = c.before.before.before in
-    c.until.result ≡ until_byte tab (drop p3.loop.at p3.before.before.args.l.now)
-found c = rw rest_part at c.until.ensures
+found : (c : tie.After-until-n invariant-loop decreases-loop) → let p3 = c in
+    c.until-n.result ≡ until_byte tab (drop p3.loop-left.at p3.args.l.now)
+found c = rw rest_part at c.until-n.ensures
 
-found_last : (c : tie.After-until2 invariant-loop decreases-loop) → let p3 = c.before.before.before in
-    c.until2.result ≡ until_byte tab (drop p3.loop.at p3.before.before.args.l.now)
-found_last c = rw rest_part at c.until2.ensures
+found_last : (c : tie.After-until invariant-loop decreases-loop) → let p3 = c in
+    c.until.result ≡ until_byte tab (drop p3.loop-left.at p3.args.l.now)
+found_last c = rw rest_part at c.until.ensures
 
-inside : (c : tie.After-until2 invariant-loop decreases-loop) → let p3 = c.before.before.before in
-    p3.loop.at + c.until2.result ≤ length p3.before.before.args.l.now
+inside : (c : tie.After-until invariant-loop decreases-loop) → let p3 = c in
+    p3.loop-left.at + c.until.result ≤ length p3.args.l.now
 inside c =
-    let p3 = c.before.before.before in
-    let l = p3.before.before.args.l.now in
-    omega (arith, found_last c, until_le tab (drop p3.loop.at l), length-drop p3.loop.at l)
+    let p3 = c in
+    let l = p3.args.l.now in
+    omega (arith, found_last c, until_le tab (drop p3.loop-left.at l), length-drop p3.loop-left.at l)
 
-returns : tie.Need-returns invariant-loop decreases-loop
+returns : tie.Need-returns-then-l-at invariant-loop decreases-loop
 returns c =
-    let p2 = c.before.before in
-    let p5 = p2.before.before.before in
-    sym (p5.loop.invariant.1 ∙ field_none p5.before.before.args.l.now p5.loop.at p5.loop.left (omega arith) (omega (arith, found p2)))
+    let p2 = c.before in
+    let p5 = c in
+    sym (p5.loop-left.invariant.1 ∙ field_none p5.args.l.now p5.loop-left.at p5.loop-left.left (omega arith) (omega (arith, found p2)))
 
-loop-again : tie.Need-loop-preserved invariant-loop decreases-loop
+loop-again : tie.Need-loop-left-preserved invariant-loop decreases-loop
 loop-again c =
     let p1 = c.before in
-    let p4 = p1.before.before.before in
-    (omega arith, p4.loop.invariant.1 ∙ rw (found p1) (field_past p4.before.before.args.l.now p4.loop.at p4.loop.left (omega arith) (omega (arith, found p1))))
+    let p4 = c in
+    (omega arith, p4.loop-left.invariant.1 ∙ rw (found p1) (field_past p4.args.l.now p4.loop-left.at p4.loop-left.left (omega arith) (omega (arith, found p1))))
 
-returns-2 : tie.Need-returns-2 invariant-loop decreases-loop
+returns-2 : tie.Need-returns invariant-loop decreases-loop
 returns-2 c =
     let p1 = c.before in
-    let p4 = p1.before.before.before in
-    sym (p4.loop.invariant.1 ∙ field_here p4.before.before.args.l.now p4.loop.at p4.loop.left p1.until2.result (omega arith) (found_last p1))
+    let p4 = c in
+    sym (p4.loop-left.invariant.1 ∙ field_here p4.args.l.now p4.loop-left.at p4.loop-left.left p1.until.result (omega arith) (found_last p1))
 
 pub field_spec : {M : Type 1} → statement M
 field_spec =
