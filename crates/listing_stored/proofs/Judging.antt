@@ -17,7 +17,6 @@ use Rattle.listing_stored.specs.Stored.{Position, after_message, after_bad, afte
 use Rattle.listing_fields.specs.Inner.{numbered}
 use Rattle.listing_stored.specs.Inner.{only_if, grown, held, entries, judged_entry, judged}
 use Rattle.listing_fields.specs.declared.Number.{Number}
-use Rattle.listing_fields.specs.declared.Number.TheVariants as Number
 use Rattle.listing_fields.proofs.Fields.{same_text_lem}
 use Rattle.listing_fields.proofs.Spelling.{checked, exactly_far}
 

@@ -21,23 +21,23 @@ wider : (r : Stored) (m n : ℕ) → m ≤ n → Within m r → Within n r
 wider (stored.Listing version messages) m n l w = omega arith
 wider (stored.Refused number line) m n l w = (w.0, omega (arith, w.1))
 
-is : (c : tie.After-known-told) → let s = c.before.before.before.before.before in
-    version_of versions s.args.s.now ≡ ok (limited c.before.found.given.0.0)
-is c = c.before.before.before.version.ensures ∙ ap found_version c.before.found.given.1
+is : (c : tie.In-Version) → let s = c in
+    version_of versions s.args.s.now ≡ ok (limited c.in-Version.v)
+is c = c.version-found.ensures ∙ ap found_version c.in-Version.is
 
-long : (c : tie.After-known-told) → 12 ≤ length c.before.before.before.before.before.args.s.now
-long c = long_enough c.before.before.before.before.before.args.s.now (limited c.before.found.given.0.0) (is c)
+long : (c : tie.In-Version) → 12 ≤ length c.args.s.now
+long c = long_enough c.args.s.now (limited c.in-Version.v) (is c)
 
-returns : tie.Need-returns
+returns : tie.Need-returns-in_default
 returns c =
-    let p2 = c.before.before in
-    (sym (read_none p2.before.before.args.s.now (p2.version.ensures ∙ ap found_version c.enum_told.given.1)), (refl, omega arith))
+    let p2 = c in
+    (sym (read_none p2.args.s.now (p2.version-found.ensures ∙ ap found_version c.in_default.is)), (refl, omega arith))
 
-returns-2 : tie.Need-returns-2
+returns-2 : tie.Need-returns
 returns-2 c =
     let p2 = c.before.before in
-    let s = p2.before.before.before.before.before.args.s.now in (
-      rw rest_part at c.lines.ensures.0 ∙ sym (read_lines s (limited p2.before.found.given.0.0) (is p2)),
+    let s = p2.args.s.now in (
+      rw rest_part at c.lines.ensures.0 ∙ sym (read_lines s (limited p2.in-Version.v) (is p2)),
       wider c.lines.result _ (length s) (omega (arith, length-drop 12 s)) (rw rest_part at c.lines.ensures.1),
     )
 

@@ -10,27 +10,27 @@ use Rattle.listing_stored.proofs.Judging.{exact_of, number_of, big_none, big_oth
 use Rattle.listing_stored.proofs.rules.big.Statement.{statement}
 use Rattle.listing_stored.proofs.rules.big.Tie as tie
 
-returns : tie.Need-returns
+returns : tie.Need-returns-then-not-v
 returns c = λ p e.
-    let args = c.before.before.before.args in
-    big_none (limited args.v) p (fields_of args.l.now) (not-true _ c.if1.true)
+    let args = c.args in
+    big_none (limited args.v) p (fields_of args.l.now) (not-true _ c.if-not-v.true)
 
-returns-2 : tie.Need-returns-2
+returns-2 : tie.Need-returns-then-count-ne3
 returns-2 c = λ p e.
-    let p2 = c.before.before in
-    let args = p2.before.before.before.args in
-    big_other (limited args.v) p (fields_of args.l.now) (not-false _ p2.if1.false) (λ h. c.if2.true (c.before.count.ensures ∙ h))
+    let p2 = c in
+    let args = p2.args in
+    big_other (limited args.v) p (fields_of args.l.now) (not-false _ p2.if-not-v.false) (λ h. c.if-count-ne3.true (c.count.ensures ∙ h))
 
-returns-3 : tie.Need-returns-3
+returns-3 : tie.Need-returns
 returns-3 c = λ p e.
-    let p3 = c.before.before.before in
-    let p5 = p3.before.before in
-    let p7 = p5.before.before in
-    let args = p7.before.before.before.args in
-    big_by (limited args.v) p (fields_of args.l.now) p3.between.result c.before.is-between.result
-    (not-false _ p7.if1.false) (sym p5.before.count.ensures ∙ p5.if2.false)
-    (number_of p.line p3.between.result (between p.line least_big most_big) p3.before.field.ensures (p3.between.ensures p.line))
-    (exact_of e c.before.before.field2.ensures (c.before.is-between.ensures p.line))
+    let p3 = c in
+    let p5 = c in
+    let p7 = c in
+    let args = p7.args in
+    big_by (limited args.v) p (fields_of args.l.now) p3.between-size.result c.is_between.result
+    (not-false _ p7.if-not-v.false) (sym p5.count.ensures ∙ p5.if-count-ne3.false)
+    (number_of p.line p3.between-size.result (between p.line least_big most_big) p3.field.ensures (p3.between-size.ensures p.line))
+    (exact_of e c.field-2.ensures (c.is_between.ensures p.line))
     ∙ ap (grown p) (sym c.only_if.ensures)
 
 pub big_spec : {M : Type 1} → statement M
