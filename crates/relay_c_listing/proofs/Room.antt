@@ -3,14 +3,13 @@
 use Prim.Native.Nat.{ℕ, ◌^◌, ◌≤◌, ◌<◌}
 use mathlib.Core.Path.{◌≡◌, refl}
 use mathlib.Core.List.{List, [], ◌∷◌}
-use native.Mathlib.Omega.{arith}
 use lib.IntN.{ℤ, pos}
 use lib.ListN.{length, drop, set}
 use lib.Seq.{sets-eq}
 use mir.Syntax.{w64}
 use mir.Val.{to_z}
 use borrow.Author.Tests.{lt-ltb, le-ltb}
-use Rattle.wire.specs.Outcome.{Outcome, ok, refused, refuse, ◌>>=◌}
+use Rattle.wire.specs.Outcome.{ok, refused, refuse, ◌>>=◌}
 use Rattle.listing_stored.specs.Stored.{Told}
 use Rattle.relay_c_listing.specs.Interface.{with_answer}
 

@@ -1,9 +1,8 @@
 -- `relay_c_listing::answer_listing` meets its contract: the reader's answer, in numbers.
 -- Assumes nothing.
-use mathlib.Core.Path.{refl, sym, ap, ◌∙◌}
+use mathlib.Core.Path.{refl}
 use native.Mathlib.Omega.{arith}
 use borrow.Author.Rules.{rules}
-use Rattle.listing_stored.specs.Answers.{told}
 use Rattle.relay_c_results.specs.Interface.{result_of}
 use Rattle.relay_c_listing.specs.Interface.{listing_numbers}
 use Rattle.relay_c_listing.proofs.Room.{refused_first}
@@ -12,27 +11,27 @@ use Rattle.relay_c_listing.proofs.answer_listing.Tie as tie
 
 answered-requires : tie.Need-answered-requires
 answered-requires c κs =
-    let p4 = c.before.before.before.before in
-    let within = rw c.before.before.stored.given.1 at p4.read-listing.ensures.1 in
-    omega (arith, within, p4.before.before.well-formed)
+    let p4 = c in
+    let within = rw c.in-Listing.is at p4.read_listing-stored.ensures.1 in
+    omega (arith, within, p4.well_formed)
 
-add-result : tie.Need-overflow-add-result
+add-result : tie.Need-overflow_add-result
 add-result c =
-    let p3 = c.before.before.before in
-    let within = rw c.before.stored2.given.1 at p3.read-listing.ensures.1 in
-    omega (arith, within.0, within.1, p3.before.before.well-formed)
+    let p3 = c in
+    let within = rw c.in-Refused.is at p3.read_listing-stored.ensures.1 in
+    omega (arith, within.0, within.1, p3.well_formed)
 
-returns : tie.Need-returns
+returns : tie.Need-returns-in-Listing
 returns c =
-    let p4 = c.before.before.before.before in
-    let p6 = p4.before.before in
-    rw (← p6.read-listing.ensures.0, p4.stored.given.1) c.before.answered.ensures
+    let p4 = c in
+    let p6 = c in
+    rw (← p6.read_listing-stored.ensures.0, p4.in-Listing.is) c.answered.ensures
 
-returns-2 : tie.Need-returns-2
+returns-2 : tie.Need-returns-in-Refused
 unfolding result_of listing_numbers
 returns-2 c =
-    let p3 = c.before.before.before in
-    rw (← p3.read-listing.ensures.0, c.before.stored2.given.1, refused_first) (refl, refl)
+    let p3 = c in
+    rw (← p3.read_listing-stored.ensures.0, c.in-Refused.is, refused_first) (refl, refl)
 
 pub answer_listing_spec : {M : Type 1} → statement M
 answer_listing_spec =
