@@ -4,6 +4,7 @@ use Prim.Native.Nat.{ℕ, suc, ◌-◌, ◌^◌, ◌<◌}
 use mathlib.Core.Bool.{true, false}
 use mathlib.Core.Path.{◌≡◌, refl}
 use native.Mathlib.Omega.{arith}
+use borrow.Author.Rules.{rules}
 use lib.IntN.{ℤ, pos, negsuc}
 use lib.Signed.{lt_z}
 use mir.Syntax.{w32}
@@ -35,7 +36,7 @@ pub bits32_spec : {M : Type 1} → statement M
 bits32_spec =
     tie.close
     (tie.spec
-    (λ c. let r = below_zero c.before.args.x c.before.ranges.x c.if-x-lt0.true in rw r.2 (tt, omega arith))
-    (λ c. let r = not_below c.before.args.x c.before.ranges.x c.if-x-lt0.false in rw r.2 (tt, omega arith))
-    (λ c. let r = below_zero c.before.args.x c.before.ranges.x c.if-x-lt0.true in rw r.2 r.3)
-    (λ c. let r = not_below c.before.args.x c.before.ranges.x c.if-x-lt0.false in rw r.2 r.3))
+    (λ c. let r = below_zero c.before.args.x c.before.ranges.x (search rules) in rw r.2 (tt, omega arith))
+    (λ c. let r = not_below c.before.args.x c.before.ranges.x (search rules) in rw r.2 (tt, omega arith))
+    (λ c. let r = below_zero c.before.args.x c.before.ranges.x (search rules) in rw r.2 r.3)
+    (λ c. let r = not_below c.before.args.x c.before.ranges.x (search rules) in rw r.2 r.3))
