@@ -15,47 +15,47 @@ use Rattle.message_append_checks.proofs.Answers.{ready_allowed, ready_low, ready
 use Rattle.message_append.proofs.append.Statement.{statement}
 use Rattle.message_append.proofs.append.Tie as tie
 
-returns : tie.Need-returns
+returns : tie.Need-returns-in_default
 unfolding viewed output ◌>>=◌
 returns c =
-    let p2 = c.before.before in
-    let p7 = p2.before.before.before.before.before in
-    let h = answer_refused (read p7.args.e p7.args.s.now) _ p2.read.ensures c.enum-told2.given.1 in
+    let p2 = c in
+    let p7 = c in
+    let h = answer_refused (read p7.args.e p7.args.s.now) _ p2.read-found.ensures c.in_default.is in
     let a = append_unread p7.args.e p7.args.s.now p7.args.identifier.now p7.args.documents.now (length p7.args.out.now) h in
-    (p2.read.ensures ∙ ap answer h ∙ rw a, rw a)
+    (p2.read-found.ensures ∙ ap answer h ∙ rw a, rw a)
 
 examine-requires : tie.Need-examine-requires
 examine-requires c κs =
-    let p3 = c.before.before.before in
-    let p8 = p3.before.before.before.before.before in
-    answer_accepted (read p8.args.e p8.args.s.now) _ p3.read.ensures c.before.enum_told.given.1
+    let p3 = c in
+    let p8 = c in
+    answer_accepted (read p8.args.e p8.args.s.now) _ p3.read-found.ensures c.in-Accepted.is
 
 appended-requires : tie.Need-appended-requires
 appended-requires c κs =
-    let p2 = c.before.before in
-    let k = (rw p2.end.given.1 at p2.before.before.examine.ensures).0 in
+    let p2 = c in
+    let k = (rw p2.in-New.is at p2.examine.ensures).0 in
     (ready_low k, ready_inside k, omega (arith, ready_length k, (ready_allowed k).fits), omega (arith, ready_length k, ready_small k))
 
-grown-requires : tie.Need-grown-requires
+grown-requires : tie.Need-grown-view-requires
 unfolding max_sections
 grown-requires c κs =
-    let p5 = c.before.before.before.before.before in
-    let k = (rw p5.end.given.1 at p5.before.before.examine.ensures).0 in
+    let p5 = c in
+    let k = (rw p5.in-New.is at p5.examine.ensures).0 in
     (omega (arith, ready_small k), omega (arith, ready_length k, ready_small k), omega (arith, ready_entry k), k.behind)
 
-returns-2 : tie.Need-returns-2
+returns-2 : tie.Need-returns-in-New
 unfolding viewed output answer ◌>>=◌
 returns-2 c =
-    let p3 = c.before.before.before in
-    let p6 = p3.before.before.before in
-    let h = (rw p6.end.given.1 at p6.before.before.examine.ensures).1 in
-    (rw (h, c.grown.ensures), p3.appended.ensures ∙ rw h)
+    let p3 = c in
+    let p6 = c in
+    let h = (rw p6.in-New.is at p6.examine.ensures).1 in
+    (rw (h, c.grown-view.ensures), p3.appended.ensures ∙ rw h)
 
-returns-3 : tie.Need-returns-3
+returns-3 : tie.Need-returns-in-Refused
 unfolding viewed output ◌>>=◌
 returns-3 c =
-    let p2 = c.before.before in
-    let h = rw p2.number.given.1 at p2.before.before.examine.ensures in
+    let p2 = c in
+    let h = rw p2.in-Refused.is at p2.examine.ensures in
     (c.refusal.ensures ∙ rw h, rw h)
 
 pub append_spec : {M : Type 1} → statement M

@@ -9,19 +9,19 @@ use Rattle.message_append_checks.proofs.Appending.{append_unread}
 use Rattle.message_append.proofs.check.Statement.{statement}
 use Rattle.message_append.proofs.check.Tie as tie
 
-returns : tie.Need-returns
+returns : tie.Need-returns-in_default
 unfolding decided ◌>>=◌
 returns c =
-    let p2 = c.before.before in
-    let a = p2.before.before.before.before.args in
-    let unread = answer_refused (read a.e a.s.now) _ p2.read.ensures c.enum-told2.given.1 in
-    rw (c.enum-told2.given.1, append_unread a.e a.s.now a.identifier.now a.documents.now a.room unread)
+    let p2 = c in
+    let a = p2.args in
+    let unread = answer_refused (read a.e a.s.now) _ p2.read-found.ensures c.in_default.is in
+    rw (c.in_default.is, append_unread a.e a.s.now a.identifier.now a.documents.now a.room unread)
 
 examine-requires : tie.Need-examine-requires
 examine-requires c κs =
-    let p2 = c.before.before in
-    let p6 = p2.before.before.before.before in
-    answer_accepted (read p6.args.e p6.args.s.now) _ p2.read.ensures c.enum_told.given.1
+    let p2 = c in
+    let p6 = c in
+    answer_accepted (read p6.args.e p6.args.s.now) _ p2.read-found.ensures c.in-Accepted.is
 
 pub check_spec : {M : Type 1} → statement M
 unfolding decided ◌>>=◌
@@ -35,5 +35,5 @@ check_spec =
     examine-requires
     (λ c. search rules)
     (λ c. search rules)
-    (λ c. rw (rw c.enum-told3.given.1 at c.before.before.examine.ensures).1)
-    (λ c. rw (rw c.before.number.given.1 at c.before.before.before.examine.ensures)))
+    (λ c. rw (rw c.in-New.is at c.examine.ensures).1)
+    (λ c. rw (rw c.in-Refused.is at c.examine.ensures)))

@@ -8,8 +8,8 @@ use Rattle.message_append.proofs.grown.Tie as tie
 returns : tie.Need-returns
 unfolding grown
 returns c =
-    let p2 = c.before.before in
-    search (rules, p2.sequence-at.ensures, p2.before.before.requires.3)
+    let p2 = c in
+    search (rules, p2.sequence_at-section.ensures, p2.requires.3)
 
 pub grown_spec : {M : Type 1} → statement M
 grown_spec =
