@@ -13,51 +13,51 @@ use Rattle.message.proofs.Forwarding.{forward_refused, forward_short, forward_fi
 use Rattle.message_forward.proofs.forward.Statement.{statement}
 use Rattle.message_forward.proofs.forward.Tie as tie
 
-returns : tie.Need-returns
+returns : tie.Need-returns-in-Refused
 unfolding viewed output ◌>>=◌
 returns c =
-    let v = c.before.before in
-    let r = v.before.before in
-    let a = r.before.before.before in
-    let f = forward_refused a.args.e a.args.s.now (length a.args.out.now) (answer_refused (read a.args.e a.args.s.now) _ r.read.ensures v.verdict.given.1) in
+    let v = c in
+    let r = c in
+    let a = c in
+    let f = forward_refused a.args.e a.args.s.now (length a.args.out.now) (answer_refused (read a.args.e a.args.s.now) _ r.read-r.ensures v.in-Refused.is) in
     (rw (c.refusal.ensures, f), rw f)
 
 -- the message was read
-shown : (c : tie.After-enum-told) →
-    let r = c.before.before in
-    let a = r.before.before.before in
-    read a.args.e a.args.s.now ≡ ok r.read.result.view
+shown : (c : tie.In_default) →
+    let r = c in
+    let a = c in
+    read a.args.e a.args.s.now ≡ ok r.read-r.result.view
 shown c =
-    let r = c.before.before in
-    let a = r.before.before.before in
-    answer_accepted (read a.args.e a.args.s.now) _ r.read.ensures c.enum_told.given.1
+    let r = c in
+    let a = c in
+    answer_accepted (read a.args.e a.args.s.now) _ r.read-r.ensures c.in_default.is
 
-returns-2 : tie.Need-returns-2
+returns-2 : tie.Need-returns-then-out-size
 unfolding viewed output ◌>>=◌
 returns-2 c =
     let t = c.before.before.before in
-    let r = t.before.before in
-    let a = r.before.before.before in
-    let f = forward_short a.args.e a.args.s.now (length a.args.out.now) r.read.result.view (shown t) c.before.if1.true in
-    (rw (c.refusal2.ensures, f), rw f)
+    let r = c in
+    let a = c in
+    let f = forward_short a.args.e a.args.s.now (length a.args.out.now) r.read-r.result.view (shown t) c.if-out-size.true in
+    (rw (c.refusal-then-out-size.ensures, f), rw f)
 
 forwarded-requires : tie.Need-forwarded-requires
 forwarded-requires c κs =
     let t = c.before.before.before in
-    let r = t.before.before in
-    let a = r.before.before.before in
-    (record { edition = a.args.e; view = r.read.result.view; reads = shown t; size_is = refl; flags_is = refl }, c.before.if1.false)
+    let r = c in
+    let a = c in
+    (record { edition = a.args.e; view = r.read-r.result.view; reads = shown t; size_is = refl; flags_is = refl }, c.if-out-size.false)
 
-returns-3 : tie.Need-returns-3
+returns-3 : tie.Need-returns
 unfolding viewed output forwarded ◌>>=◌
 returns-3 c =
     let w = c.before.before in
     let l = w.before.before in
     let t = l.before.before in
-    let r = t.before.before in
-    let a = r.before.before.before in
-    let f = forward_fits a.args.e a.args.s.now (length a.args.out.now) r.read.result.view (shown t) l.if1.false in
-    (rw f (r.read.ensures ∙ ap answer (shown t)), rw f w.forwarded.ensures)
+    let r = c in
+    let a = c in
+    let f = forward_fits a.args.e a.args.s.now (length a.args.out.now) r.read-r.result.view (shown t) l.if-out-size.false in
+    (rw f (r.read-r.ensures ∙ ap answer (shown t)), rw f w.forwarded.ensures)
 
 pub forward_spec : {M : Type 1} → statement M
 forward_spec =
