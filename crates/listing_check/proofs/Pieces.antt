@@ -17,7 +17,7 @@ use Rattle.listing_lines.specs.Lines.{first_line}
 use Rattle.listing_fields.specs.Numbers.{until_newline}
 use Rattle.listing_fields.proofs.Fields.{until_line, until_split}
 use Rattle.listing_stored.specs.Version.{Version, versions}
-use Rattle.listing_stored.specs.Stored.{Position, start, version_of, Told, read_listing}
+use Rattle.listing_stored.specs.Stored.{Position, start, version_of, read_listing}
 use Rattle.listing_stored.specs.Inner.{judged, run, answered}
 use Rattle.listing_stored.proofs.Judged.{run_empty, run_rest, run_line}
 use Rattle.listing_stored.proofs.Versions.{version_found, version_refused, begins_1, begins_2, begins_else, read_behind, read_none, first_length, long_enough}

@@ -10,31 +10,31 @@ use Rattle.listing_check.proofs.Pieces.{first_on, first_none, first_short}
 use Rattle.listing_check.proofs.check_first.Statement.{statement}
 use Rattle.listing_check.proofs.check_first.Tie as tie
 
-returns : tie.Need-returns
+returns : tie.Need-returns-then-ended
 unfolding tell
 returns c =
-    let p2 = c.before.before in
-    let s = p2.before.before.args.s.now in
-    rw c.wrong.ensures (λ later none. sym (rw (none c.before.if2.true, append-nil s) (first_short s p2.if1.true)))
+    let p2 = c in
+    let s = p2.args.s.now in
+    rw c.wrong.ensures (λ later none. sym (rw (none c.if-ended.true, append-nil s) (first_short s p2.if-s-lt-FIRST_LINE.true)))
 
-returns-3 : tie.Need-returns-3
+returns-3 : tie.Need-returns-in_default
 unfolding tell
 returns-3 c =
-    let p3 = c.before.before.before in
-    let s = p3.before.before.before.args.s.now in
-    rw c.wrong2.ensures (λ later none. sym (first_none s later p3.before.if1.false (p3.version.ensures ∙ ap found_version c.before.enum_told.given.1)))
+    let p3 = c in
+    let s = p3.args.s.now in
+    rw c.wrong-in_default.ensures (λ later none. sym (first_none s later p3.if-s-lt-FIRST_LINE.false (p3.version-found.ensures ∙ ap found_version c.in_default.is)))
 
-returns-4 : tie.Need-returns-4
+returns-4 : tie.Need-returns
 unfolding tell
 returns-4 c =
-    let p2 = c.before.before in
-    let p4 = p2.before.before in
-    let s = p4.before.before.before.args.s.now in
-    let v = limited p2.found.given.0.0 in (
+    let p2 = c in
+    let p4 = c in
+    let s = p4.args.s.now in
+    let v = limited p2.in-Version.v in (
       omega arith,
-      p4.before.if1.false,
+      p4.if-s-lt-FIRST_LINE.false,
       omega (arith, c.start.ensures.1),
-      λ later. rw c.start.ensures.0 (first_on s later v (p4.version.ensures ∙ ap found_version p2.found.given.1)),
+      λ later. rw c.start.ensures.0 (first_on s later v (p4.version-found.ensures ∙ ap found_version p2.in-Version.is)),
     )
 
 pub check_first_spec : {M : Type 1} → statement M
