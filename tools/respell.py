@@ -81,7 +81,7 @@ def foreign(text):
     return out
 
 
-QUOTED = re.compile(r'("(?:[^"\\\\]|\\\\.)*")')
+QUOTED = re.compile(r'("(?:[^"\\]|\\.)*")')
 TOKEN = re.compile(r"(?P<dot>\.?)(?P<word>[A-Za-z+μ_][A-Za-z0-9_'′₀-₉-]*)")
 
 
