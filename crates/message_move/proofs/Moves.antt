@@ -2,7 +2,7 @@
 -- Assumes nothing.
 use Prim.Native.Nat.{ℕ, ◌+◌, ◌<◌, ◌≤◌, ◌^◌}
 use mathlib.Core.Path.{◌≡◌, refl, sym, ap, ◌∙◌}
-use mathlib.Core.List.{List, [], ◌∷◌, ◌++◌, flat_map}
+use mathlib.Core.List.{List, ◌∷◌, flat_map}
 use native.Mathlib.Omega.{arith}
 use lib.ListN.{length, take, drop, length-append, length-drop}
 use lib.Seq.{length-take-le}
@@ -12,7 +12,7 @@ use Rattle.wire.specs.Outcome.{Outcome, ok, refused, refuse, ◌>>=◌}
 use Rattle.wire.specs.Bytes.{Bytes}
 use Rattle.wire.proofs.Outcome.{passed, clear, pass, go_on, halt, assoc}
 use Rattle.opmsg.specs.Layout.{checksum_size, section_bytes}
-use Rattle.opmsg.specs.Sections.{max_sequences, max_sections, body_of, sequences_of}
+use Rattle.opmsg.specs.Sections.{max_sequences, body_of, sequences_of}
 use Rattle.opmsg.specs.View.{padded, sections_of, sequence_count}
 use Rattle.opmsg.specs.Inner.{first_sections}
 use Rattle.opmsg.specs.Read.{read}

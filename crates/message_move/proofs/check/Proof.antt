@@ -11,24 +11,24 @@ use Rattle.message_move.proofs.Moves.{move_unread, move_decided}
 use Rattle.message_move.proofs.check.Statement.{statement}
 use Rattle.message_move.proofs.check.Tie as tie
 
-returns : tie.Need-returns
+returns : tie.Need-returns-in_default
 unfolding decided ◌>>=◌
 returns c =
-    let r = c.before.before in
-    let a = r.before.before.args in
-    let unread = answer_refused (read a.e a.s.now) _ r.read.ensures c.enum-told2.given.1 in
-    rw (c.enum-told2.given.1, move_unread a.e a.s.now a.behind a.room unread)
+    let r = c in
+    let a = r.args in
+    let unread = answer_refused (read a.e a.s.now) _ r.read-found.ensures c.in_default.is in
+    rw (c.in_default.is, move_unread a.e a.s.now a.behind a.room unread)
 
-returns-2 : tie.Need-returns-2
+returns-2 : tie.Need-returns
 returns-2 c =
-    let n = c.before in
-    let t = n.before.before in
-    let r = t.before.before in
-    let known = r.before in
-    let a = known.before.args in
-    let h = answer_accepted (read a.e a.s.now) _ r.read.ensures t.enum_told.given.1 in
-    rw n.sequence-count.ensures at c.movable.ensures
-    ∙ sym (move_decided a.e a.s.now a.behind a.room r.read.result.view h (λ i. omega (arith, known.shared-slice-known.given i)))
+    let n = c in
+    let t = c in
+    let r = c in
+    let known = c in
+    let a = known.args in
+    let h = answer_accepted (read a.e a.s.now) _ r.read-found.ensures t.in-Accepted.is in
+    rw n.sequence_count.ensures at c.movable.ensures
+    ∙ sym (move_decided a.e a.s.now a.behind a.room r.read-found.result.view h (λ i. omega (arith, known.shared_slice_known-1.given i)))
 
 pub check_spec : {M : Type 1} → statement M
 check_spec =

@@ -13,7 +13,7 @@ movable_spec =
     tie.close
     (tie.spec
     (λ c κs. search rules)
-    (λ c. rw (c.refused.ensures, movable, lt-ltb _ _ c.before.if1.true))
+    (λ c. rw (c.refused.ensures, movable, lt-ltb _ _ c.if-count-behind.true))
     (λ c κs. search rules)
-    (λ c. rw (c.refused2.ensures, movable, le-ltb _ _ c.before.before.if1.false, lt-ltb _ _ c.before.if2.true))
-    (λ c. rw (movable, le-ltb _ _ c.before.if1.false, le-ltb _ _ c.if2.false)))
+    (λ c. rw (c.refused-then-room-length.ensures, movable, le-ltb _ _ c.if-count-behind.false, lt-ltb _ _ c.if-room-length.true))
+    (λ c. rw (movable, le-ltb _ _ c.if-count-behind.false, le-ltb _ _ c.if-room-length.false)))

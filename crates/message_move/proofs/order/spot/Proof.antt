@@ -12,5 +12,5 @@ spot_spec =
     tie.close
     (tie.spec
     (λ c. search rules)
-    (λ c. rw (spot, lt-ltb _ _ c.if1.true))
-    (λ c. rw (spot, le-ltb _ _ c.if1.false)))
+    (λ c. rw (spot, lt-ltb _ _ c.if-count-behind.true))
+    (λ c. rw (spot, le-ltb _ _ c.if-count-behind.false)))
