@@ -10,34 +10,34 @@ use Rattle.relay_c.proofs.Tells.{viewed_placed, decided_placed}
 use Rattle.relay_c.proofs.relay_append.Statement.{statement}
 use Rattle.relay_c.proofs.relay_append.Tie as tie
 
-without-view-requires : tie.Need-without-view-requires
+without-view-requires : tie.Need-without_view-requires
 without-view-requires c κs =
-    let e = c.before.before in
-    let a = e.before.before.before.before.before in
-    decided_placed _ c.check.result (refusals_bounded.appends e.edition.result a.args.message.now a.args.identifier.now a.args.documents.now (length a.args.out.now))
+    let e = c in
+    let a = c in
+    decided_placed _ c.check.result (refusals_bounded.appends e.edition-e.result a.args.message.now a.args.identifier.now a.args.documents.now (length a.args.out.now))
     c.check.ensures
 
-returns : tie.Need-returns
+returns : tie.Need-returns-then-view-lt-NUMBERS
 unfolding view_size
 returns c =
-    let k = c.before in
-    let e = k.before.before in
-    let a = e.before.before.before.before.before in
-    let o = append e.edition.result a.args.message.now a.args.identifier.now a.args.documents.now (length a.args.out.now) in
-    rw (← e.edition.ensures) (short _ o k.check.result _ _ k.before.if1.true k.check.ensures c.without-view.ensures)
+    let k = c in
+    let e = c in
+    let a = c in
+    let o = append e.edition-e.result a.args.message.now a.args.identifier.now a.args.documents.now (length a.args.out.now) in
+    rw (← e.edition-e.ensures) (short _ o k.check.result _ _ k.if-view-lt-NUMBERS.true k.check.ensures c.without_view.ensures)
 
 answered-requires : tie.Need-answered-requires
 answered-requires c κs =
-    let w = c.before.before.before in
+    let w = c in
     viewed_placed _ w.append.result (refusals_bounded.appends _ _ _ _ _) w.append.ensures.0
 
-returns-2 : tie.Need-returns-2
+returns-2 : tie.Need-returns
 unfolding view_size
 returns-2 c =
-    let w = c.before.before.before.before.before in
-    let l = w.before.before in
-    let told_all = c.before.answered.ensures in
-    rw (← l.before.edition.ensures) (told _ _ _ _ _ _ w.append.result l.if1.false w.append.ensures.0 w.append.ensures.1 told_all.0 told_all.1)
+    let w = c in
+    let l = c in
+    let told_all = c.answered.ensures in
+    rw (← l.edition-e.ensures) (told _ _ _ _ _ _ w.append.result l.if-view-lt-NUMBERS.false w.append.ensures.0 w.append.ensures.1 told_all.0 told_all.1)
 
 pub relay_append_spec : {M : Type 1} → statement M
 relay_append_spec =

@@ -17,71 +17,71 @@ use Rattle.relay_c.proofs.relay_forward.Tie as tie
 
 refusal-requires : tie.Need-refusal-requires
 refusal-requires c κs =
-    let v = c.before in
-    let r = v.before.before in
-    let e = r.before in
-    (refusals_bounded.reads e.edition.result e.before.before.before.args.message.now _ _ (answer_refused _ _ r.read.ensures v.verdict.given.1)).3
+    let v = c in
+    let r = c in
+    let e = c in
+    (refusals_bounded.reads e.edition.result e.args.message.now _ _ (answer_refused _ _ r.read-r.ensures v.in-Refused.is)).3
 
-returns : tie.Need-returns
+returns : tie.Need-returns-in-Refused
 returns c =
-    let v = c.before.before in
-    let r = v.before.before in
-    let e = r.before in
-    let a = e.before.before.before in
+    let v = c in
+    let r = c in
+    let e = c in
+    let a = c in
     let o = forward e.edition.result a.args.message.now (length a.args.out.now) in
     rw (← e.edition.ensures)
-    (refused_leaves _ o _ _ (own_refusal _ o (forward_refused e.edition.result a.args.message.now _ (answer_refused _ _ r.read.ensures v.verdict.given.1))) c.refusal.ensures)
+    (refused_leaves _ o _ _ (own_refusal _ o (forward_refused e.edition.result a.args.message.now _ (answer_refused _ _ r.read-r.ensures v.in-Refused.is))) c.refusal.ensures)
 
 -- the message was read
-shown : (c : tie.After-enum-told) →
-    let r = c.before.before in
-    let e = r.before in
-    read e.edition.result e.before.before.before.args.message.now ≡ ok r.read.result.view
-shown c = let r = c.before.before in answer_accepted _ r.read.result r.read.ensures c.enum_told.given.1
+shown : (c : tie.In_default) →
+    let r = c in
+    let e = c in
+    read e.edition.result e.args.message.now ≡ ok r.read-r.result.view
+shown c = let r = c in answer_accepted _ r.read-r.result r.read-r.ensures c.in_default.is
 
-returns-2 : tie.Need-returns-2
+returns-2 : tie.Need-returns-then-out-size
 returns-2 c =
     let t = c.before.before.before in
-    let e = t.before.before.before in
-    let a = e.before.before.before in
+    let e = c in
+    let a = c in
     let o = forward e.edition.result a.args.message.now (length a.args.out.now) in
     rw (← e.edition.ensures)
-    (refused_leaves _ o _ _ (own_refusal _ o (forward_short e.edition.result a.args.message.now _ _ (shown t) c.before.if1.true)) c.refusal2.ensures)
+    (refused_leaves _ o _ _ (own_refusal _ o (forward_short e.edition.result a.args.message.now _ _ (shown t) c.if-out-size.true)) c.refusal-then-out-size.ensures)
 
-returns-3 : tie.Need-returns-3
+returns-3 : tie.Need-returns-then-view-lt-NUMBERS
 unfolding view_size
 returns-3 c =
     let f = c.before.before in
     let t = f.before.before in
-    let e = t.before.before.before in
-    let a = e.before.before.before in
+    let e = c in
+    let a = c in
     let o = forward e.edition.result a.args.message.now (length a.args.out.now) in
     rw (← e.edition.ensures)
-    (refused_leaves _ o _ _ (no_room _ o c.before.if2.true (forward_fits e.edition.result a.args.message.now _ _ (shown t) f.if1.false)) c.refusal3.ensures)
+    (refused_leaves _ o _ _ (no_room _ o c.if-view-lt-NUMBERS.true (forward_fits e.edition.result a.args.message.now _ _ (shown t) f.if-out-size.false)) c.refusal-then-view-lt-NUMBERS.ensures)
 
 forwarded-requires : tie.Need-forwarded-requires
 forwarded-requires c κs =
     let f = c.before.before in
     let t = f.before.before in
-    let r = t.before.before in
-    (record { edition = r.before.edition.result; view = r.read.result.view; reads = shown t; size_is = refl; flags_is = refl }, f.if1.false)
+    let r = c in
+    (record { edition = r.edition.result; view = r.read-r.result.view; reads = shown t; size_is = refl; flags_is = refl }, f.if-out-size.false)
 
 show-requires : tie.Need-show-requires
 unfolding view_size
-show-requires c κs = c.before.before.before.before.before.before.if2.false
+show-requires c κs = c.if-view-lt-NUMBERS.false
 
-returns-4 : tie.Need-returns-4
+returns-4 : tie.Need-returns
 unfolding view_size forwarded
 returns-4 c =
     let w = c.before.before.before.before.before.before in
     let l = w.before.before in
     let f = l.before in
     let t = f.before.before in
-    let e = t.before.before.before in
-    let a = e.before.before.before in
+    let e = c in
+    let a = c in
     let o = forward e.edition.result a.args.message.now (length a.args.out.now) in
     rw (← e.edition.ensures)
-    (accepted_leaves _ o _ _ _ _ (has_room _ o l.if2.false (forward_fits e.edition.result a.args.message.now _ _ (shown t) f.if1.false)) w.forwarded.ensures c.before.show.ensures)
+    (accepted_leaves _ o _ _ _ _ (has_room _ o l.if-view-lt-NUMBERS.false (forward_fits e.edition.result a.args.message.now _ _ (shown t) f.if-out-size.false)) w.forwarded.ensures c.show.ensures)
 
 pub relay_forward_spec : {M : Type 1} → statement M
 relay_forward_spec =

@@ -11,14 +11,14 @@ use Rattle.relay_c.proofs.relay_read.Tie as tie
 
 answered-requires : tie.Need-answered-requires
 answered-requires c κs =
-    let r = c.before in
-    let e = r.before in
-    answer_placed _ r.read.result (refusals_bounded.reads e.edition.result e.before.before.args.message.now) r.read.ensures
+    let r = c in
+    let e = c in
+    answer_placed _ r.read.result (refusals_bounded.reads e.edition.result e.args.message.now) r.read.ensures
 
 returns : tie.Need-returns
 returns c =
-    let r = c.before.before.before in
-    rw (← r.before.edition.ensures, ← ap outcome r.read.ensures ∙ outcome_answer _) c.before.answered.ensures
+    let r = c in
+    rw (← r.edition.ensures, ← ap outcome r.read.ensures ∙ outcome_answer _) c.answered.ensures
 
 pub relay_read_spec : {M : Type 1} → statement M
 relay_read_spec =
