@@ -7,7 +7,7 @@ use mathlib.Core.List.{List, []}
 use native.Mathlib.Omega.{arith}
 use lib.ListN.{length}
 use lib.Dec.{eqb}
-use borrow.Author.Tests.{eqb-true, eqb-false}
+use borrow.Author.Tests.{eqb-true}
 use Rattle.io.specs.Counts.{IsPrefixLen}
 use Rattle.listing_lines.specs.Written.{TextWritten}
 use Rattle.listing_lines.specs.Lines.{big_line, bad_line}

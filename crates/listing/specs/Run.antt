@@ -1,6 +1,6 @@
 -- A run over a stream that comes in pieces: what a turn makes of the bytes at hand, and what a run prints.
 -- Assumes nothing: these are definitions.
-use Rattle.std.specs.Prelude.{ℕ, zero, suc, ◌+◌, ◌-◌, ◌*◌, ◌≤◌, min, Bool, true, false, ◌≡◌, length, drop, eqb}
+use Rattle.std.specs.Prelude.{ℕ, zero, suc, ◌+◌, ◌-◌, ◌*◌, ◌≤◌, Bool, true, false, ◌≡◌, length, drop, eqb}
 use mathlib.Core.List.{List, [], ◌∷◌, ◌++◌, flatten}
 use Rattle.listing_lines.specs.Lines.{version, first_line, message_line, big_line, bad_line, end_line}
 use Rattle.listing.specs.Next.{next}

@@ -21,7 +21,7 @@ pub enum Step {
 
 // Where a run over a stream stands: so many bytes and messages are behind it, and of a message of `length` bytes that is passed over,
 // `left` are still to come.
-#[derive(Drop)]
+#[derive(Clone, Copy)]
 pub struct Run {
     pub offset: u64,
     pub messages: u64,

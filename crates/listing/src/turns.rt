@@ -67,10 +67,11 @@ fn stepped(run: Run, step: Step, line: &mut [u8; 256]) -> Turn
 {
     match step {
         Step::Message(m) => {
+            let length = m.length;
             let n = message_line(line, run.offset, m);
             Turn {
-                run: behind(run, m.length),
-                used: m.length as usize,
+                run: behind(run, length),
+                used: length as usize,
                 line: n,
                 more: false,
             }

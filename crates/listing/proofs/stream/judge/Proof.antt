@@ -6,17 +6,17 @@ use Rattle.listing.specs.Next.{judge}
 use Rattle.listing.proofs.stream.judge.Statement.{statement}
 use Rattle.listing.proofs.stream.judge.Tie as tie
 
-returns : tie.Need-returns
+returns : tie.Need-returns-then-long
 unfolding judge word_at
 returns c =
-    let p2 = c.before.before in
-    rw (judge, ← p2.long.ensures, c.before.if1.true, word_at, ← c.word.ensures)
+    let p2 = c in
+    rw (judge, ← p2.long.ensures, c.if-long.true, word_at, ← c.word.ensures)
 
-returns-2 : tie.Need-returns-2
+returns-2 : tie.Need-returns
 unfolding judge
 returns-2 c =
-    let p2 = c.before.before in
-    rw (judge, ← p2.long.ensures, c.before.if1.false, ← c.Read-step.ensures)
+    let p2 = c in
+    rw (judge, ← p2.long.ensures, c.if-long.false, ← c.read_step.ensures)
 
 pub judge_spec : {M : Type 1} → statement M
 judge_spec =

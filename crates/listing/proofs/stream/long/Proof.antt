@@ -8,20 +8,20 @@ use Rattle.listing.specs.Next.{buffer_length, long}
 use Rattle.listing.proofs.stream.long.Statement.{statement}
 use Rattle.listing.proofs.stream.long.Tie as tie
 
-returns-2 : tie.Need-returns-2
+returns-2 : tie.Need-returns-then-n-gt-MAX_LENGTH
 unfolding long word_at max_length
-returns-2 c = rw (long, le-leb _ _ c.before.before.if1.false, word_at, ← c.before.word.ensures, lt-leb _ _ c.if2.true)
+returns-2 c = rw (long, le-leb _ _ c.if-s-lt16.false, word_at, ← c.word-n.ensures, lt-leb _ _ c.if-n-gt-MAX_LENGTH.true)
 
-returns-3 : tie.Need-returns-3
+returns-3 : tie.Need-returns
 unfolding long word_at max_length buffer_length
-returns-3 c = rw (long, le-leb _ _ c.before.before.if1.false, word_at, ← c.before.word.ensures, le-leb _ _ c.if2.false)
+returns-3 c = rw (long, le-leb _ _ c.if-s-lt16.false, word_at, ← c.word-n.ensures, le-leb _ _ c.if-n-gt-MAX_LENGTH.false)
 
 pub long_spec : {M : Type 1} → statement M
 unfolding long
 long_spec =
     tie.close
     (tie.spec
-    (λ c. rw (long, lt-leb _ _ c.if1.true))
+    (λ c. rw (long, lt-leb _ _ c.if-s-lt16.true))
     (λ c κs. search rules)
     returns-2
     returns-3)

@@ -6,7 +6,7 @@ use Prim.Native.Nat.{ℕ}
 use mathlib.Core.List.{List}
 use lib.ListN.{length}
 use borrow.Author.Rules.{rules}
-use borrow.Author.Tests.{eq-eqb, ne_eqb, not-true, not-false}
+use borrow.Author.Tests.{eq-eqb, ne_eqb}
 use Rattle.listing.specs.Next.{next}
 use Rattle.listing.specs.Inner.{StepWithin}
 use Rattle.listing.specs.declared.Step.{Step}
@@ -18,33 +18,33 @@ use Rattle.listing.proofs.stream.next.Tie as tie
 both : (ended : Bool) (s : List ℕ) (r : Step) → r ≡ next ended s → (r ≡ next ended s) × StepWithin (length s) r
 both ended s r e = (e, rw e (next_within ended s))
 
-returns : tie.Need-returns
+returns : tie.Need-returns-then-short
 unfolding next
 returns c =
-    let p2 = c.before.before in
-    let a = p2.before.before.args in
-    both a.ended a.s.now More (rw (not-true a.ended p2.if1.true, next, ← c.before.short.ensures, c.if2.true))
+    let p2 = c in
+    let a = p2.args in
+    both a.ended a.s.now More (rw (p2.if-not-ended.true, next, ← c.short.ensures, c.if-short.true))
 
-returns-2 : tie.Need-returns-2
+returns-2 : tie.Need-returns-then-not-ended
 unfolding next
 returns-2 c =
-    let p2 = c.before.before in
-    let p3 = p2.before in
-    let a = p3.before.before.args in
-    both a.ended a.s.now c.judge.result (rw (not-true a.ended p3.if1.true, next, ← p2.short.ensures, c.before.if2.false, ← c.judge.ensures))
+    let p2 = c in
+    let p3 = c in
+    let a = p3.args in
+    both a.ended a.s.now c.judge.result (rw (p3.if-not-ended.true, next, ← p2.short.ensures, c.if-short.false, ← c.judge.ensures))
 
-returns-3 : tie.Need-returns-3
+returns-3 : tie.Need-returns-then-s-eq0
 unfolding next
 returns-3 c =
-    let a = c.before.before.before.args in
-    both a.ended a.s.now End (rw (not-false a.ended c.before.if1.false, next, eq-eqb _ _ c.if3.true))
+    let a = c.args in
+    both a.ended a.s.now End (rw (c.if-not-ended.false, next, eq-eqb _ _ c.if-s-eq0.true))
 
-returns-4 : tie.Need-returns-4
+returns-4 : tie.Need-returns
 unfolding next
 returns-4 c =
-    let p2 = c.before.before in
-    let a = p2.before.before.args in
-    both a.ended a.s.now c.judge2.result (rw (not-false a.ended p2.if1.false, next, ne_eqb _ _ c.before.if3.false, ← c.judge2.ensures))
+    let p2 = c in
+    let a = p2.args in
+    both a.ended a.s.now c.judge-2.result (rw (p2.if-not-ended.false, next, ne_eqb _ _ c.if-s-eq0.false, ← c.judge-2.ensures))
 
 pub next_spec : {M : Type 1} → statement M
 next_spec =

@@ -10,26 +10,26 @@ use Rattle.opmsg.proofs.Answered.{answer_refused, answer_accepted}
 use Rattle.listing.proofs.stream.read_step.Statement.{statement}
 use Rattle.listing.proofs.stream.read_step.Tie as tie
 
-returns : tie.Need-returns
+returns : tie.Need-returns-in-Refused
 unfolding step_of
 returns c =
-    let p3 = c.before.before.before in
-    let start = p3.before.before.before in
-    let is = rw p3.before.house.ensures at p3.read.ensures in
-    rw (answer_refused (read house start.args.s.now) p3.read.result is c.before.verdict.given.1)
+    let p3 = c in
+    let start = c in
+    let is = rw p3.house.ensures at p3.read-reading.ensures in
+    rw (answer_refused (read house start.args.s.now) p3.read-reading.result is c.in-Refused.is)
 
-returns-2 : tie.Need-returns-2
+returns-2 : tie.Need-returns
 unfolding step_of
 returns-2 c =
-    let p3 = c.before.before.before in
-    let p5 = p3.before.before in
-    let start = p5.before.before.before in
-    let v = p5.read.result.view in
-    let is = rw p5.before.house.ensures at p5.read.ensures in
-    let a = answer_accepted (read house start.args.s.now) p5.read.result is p3.enum_told.given.1 in
-    let first = to_z-of_z {w = w32} {z = v.request_id} (record { sfits = c.struct_told.given.1.0.1 }) in
-    let second = to_z-of_z {w = w32} {z = v.response_to} (record { sfits = c.struct_told.given.1.1.0.1 }) in
-    rw (a, first, second, ← c.before.sequence-count.ensures)
+    let p3 = c in
+    let p5 = c in
+    let start = c in
+    let v = p5.read-reading.result.view in
+    let is = rw p5.house.ensures at p5.read-reading.ensures in
+    let a = answer_accepted (read house start.args.s.now) p5.read-reading.result is p3.in_default.is in
+    let first = to_z-of_z {w = w32} {z = v.request_id} (record { sfits = c.struct_told-1.given.1.0.1 }) in
+    let second = to_z-of_z {w = w32} {z = v.response_to} (record { sfits = c.struct_told-1.given.1.1.0.1 }) in
+    rw (a, first, second, ← c.sequence_count-sequences.ensures)
 
 pub read_step_spec : {M : Type 1} → statement M
 read_step_spec =
