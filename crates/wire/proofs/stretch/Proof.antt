@@ -1,24 +1,22 @@
 -- `wire::stretch` meets its contract: nothing is there, or no more than n bytes, or more.
 -- Assumes nothing.
-use Prim.Native.Nat.{◌+◌, ◌-◌}
+use Prim.Native.Nat.{ℕ, ◌+◌, ◌-◌, ◌≤◌}
+use mathlib.Core.List.{List, []}
 use mathlib.Core.Path.{◌≡◌, sym}
 use native.Mathlib.Omega.{arith}
-use lib.ListN.{drop, length-drop, drop_of_length-le}
+use lib.ListN.{length, take, drop, length-drop, drop_of_length-le}
 use lib.Seq.{take_all, take-nil}
 use borrow.Author.Rules.{rules}
 use Rattle.wire.proofs.Parts.{rest_part}
 use Rattle.wire.proofs.stretch.Statement.{statement}
 use Rattle.wire.proofs.stretch.Tie as tie
 
-returns : tie.Need-returns-then-s-place
-returns c =
-    let a = c.before.args in
-    rw (drop_of_length-le a.s.now c.if-s-place.true) (sym (take-nil a.n))
+-- where no more than n bytes stand from the place on, all of them
+all : (s : List ℕ) (place n : ℕ) → length s - place ≤ n → take (length s - place) (drop place s) ≡ take n (drop place s)
+all s place n h = rw (rest_part place s) (sym (take_all n (drop place s) (rw (length-drop place s) h)))
 
-returns-2 : tie.Need-returns-then-s-place-2
-returns-2 c =
-    let a = c.before.before.before.args in
-    rw (rest_part a.place a.s.now) (sym (take_all a.n (drop a.place a.s.now) (rw (length-drop a.place a.s.now) c.before.if-s-place-2.true)))
+none : (s : List ℕ) (place n : ℕ) → length s ≤ place → [] ≡ take n (drop place s)
+none s place n h = rw (drop_of_length-le s h) (sym (take-nil n))
 
 returns-3 : tie.Need-returns
 returns-3 c =
@@ -31,12 +29,12 @@ stretch_spec =
     tie.close
     (tie.spec
     (λ c. search rules)
-    returns
+    (λ c. none c.args.s.now c.args.place c.args.n (omega arith))
     (λ c. search rules)
     (λ c. search rules)
     (λ c. search rules)
     (λ c. search rules)
-    returns-2
+    (λ c. all c.args.s.now c.args.place c.args.n (omega arith))
     (λ c. search rules)
     (λ c. search rules)
     (λ c. search rules)

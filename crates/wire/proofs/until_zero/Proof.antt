@@ -3,7 +3,7 @@
 use Prim.Native.Nat.{◌≤◌, ◌+◌, ◌-◌}
 use native.Mathlib.Omega.{arith}
 use mathlib.Core.Path.{◌≡◌}
-use lib.ListN.{length, drop}
+use lib.ListN.{length, get_or, drop}
 use borrow.Author.Tests.{ne_eqb, eq-eqb}
 use Rattle.wire.specs.Bytes.{until_zero}
 use Rattle.wire.proofs.Bytes.{at_zero, past_byte, past_all}
@@ -16,19 +16,6 @@ invariant-loop s i₀ i = (i ≤ length s) × (until_zero s ≡ i + until_zero (
 abbrev decreases-loop : tie.decreases-loop-i
 decreases-loop s i₀ i = length s - i
 
-loop-again : tie.Need-loop-i-preserved invariant-loop decreases-loop
-loop-again c =
-    let b = c.before.before.before in
-    omega (arith, past_byte b.before.args.s.now b.loop-i.i c.before.before.loop-i-test.true (ne_eqb _ _ c.if-s-i-ne0.true))
-
-at-a-zero : tie.Need-returns-else-s-i-ne0 invariant-loop decreases-loop
-at-a-zero c =
-    let b = c.before.before.before in
-    omega (arith, at_zero b.before.args.s.now b.loop-i.i c.before.before.loop-i-test.true (eq-eqb _ _ c.if-s-i-ne0.false))
-
-at-the-end : tie.Need-returns-after-loop-i invariant-loop decreases-loop
-at-the-end c = omega (arith, past_all c.before.before.args.s.now c.before.loop-i.i c.loop-i-test.false)
-
 pub until_zero_spec : {M : Type 1} → statement M
 until_zero_spec =
     tie.close
@@ -37,6 +24,6 @@ until_zero_spec =
     (λ c. omega arith)
     (λ c. omega arith)
     (λ c. omega arith)
-    loop-again
-    at-a-zero
-    at-the-end)
+    (λ c. omega (arith, past_byte c.args.s.now c.loop-i.i (omega arith) (ne_eqb (get_or c.args.s.now c.loop-i.i 0) 0 (λ e. omega arith))))
+    (λ c. omega (arith, at_zero c.args.s.now c.loop-i.i (omega arith) (eq-eqb (get_or c.args.s.now c.loop-i.i 0) 0 (omega arith))))
+    (λ c. omega (arith, past_all c.args.s.now c.loop-i.i (omega arith))))
