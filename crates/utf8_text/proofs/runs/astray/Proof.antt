@@ -15,4 +15,4 @@ astray_spec =
     (λ c e. absurd (omega (arith, e)))
     (λ c _. let t = c.before.before in inl (c.before.if-x-lt194.false, c.if-x-gt223.false, t.before.tail.ensures.0 t.if-tail.true))
     (λ c e. absurd (omega (arith, e)))
-    (λ c _. let t = c.before in inr (c.if-x-gt191.false, t.before.tail.ensures.1 t.if-tail.false)))
+    (λ c _. let t = c.before in inr (omega arith, t.before.tail.ensures.1 t.if-tail.false)))

@@ -1,7 +1,6 @@
 -- `utf8_text::runs::block` meets its contract: it begins with no tail, its bytes are joined, and its last one tells where it ends.
 -- Assumes nothing.
 use borrow.Author.Rules.{rules}
-use borrow.Author.Tests.{not-false}
 use Rattle.utf8_text.proofs.Passing.{none_passes}
 use Rattle.utf8_text.proofs.Blocks.{whole, and_a_tail}
 use Rattle.utf8_text.proofs.runs.block.Statement.{statement}
