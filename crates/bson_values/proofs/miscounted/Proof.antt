@@ -8,30 +8,17 @@ use Rattle.wire.proofs.Parts.{rest_part}
 use Rattle.bson_values.proofs.miscounted.Statement.{statement}
 use Rattle.bson_values.proofs.miscounted.Tie as tie
 
-other-subtype : tie.Need-returns-then-s-ne2
-other-subtype c = let s = c.args.s.now in rw (ne_eqb (get_or s 4 0) 2 (λ e. omega (arith, c.if-s-ne2.true)))
-
-too_short : tie.Need-returns-then-n-lt4
-too_short c =
-    let a = c.args in
-    rw (eq-eqb (get_or a.s.now 4 0) 2 (omega (arith, c.if-s-ne2.false)), lt-ltb a.n 4 (omega (arith, c.if-n-lt4.true)))
-
-compared : tie.Need-returns
-compared c =
-    let t = c in
-    let a = t.args in
-    let s = a.s.now in
-    rw (eq-eqb (get_or s 4 0) 2 (omega (arith, t.if-s-ne2.false)), le-ltb a.n 4 (omega (arith, t.if-n-lt4.false)), ← rest_part 5 s, ← c.word.ensures)
-
 pub miscounted_spec : {M : Type 1} → statement M
 miscounted_spec =
     tie.close
     (tie.spec
     (λ c. search rules)
-    other-subtype
-    too_short
+    (λ c. rw (ne_eqb (get_or c.args.s.now 4 0) 2 (λ e. omega arith)))
+    (λ c. rw (eq-eqb (get_or c.args.s.now 4 0) 2 (omega arith), lt-ltb c.args.n 4 (omega arith)))
     (λ c. search rules)
     (λ c. search rules)
     (λ c. search rules)
     (λ c κs. search rules)
-    compared)
+    (λ c.
+    let s = c.args.s.now in
+    rw (eq-eqb (get_or s 4 0) 2 (omega arith), le-ltb c.args.n 4 (omega arith), ← rest_part 5 s, ← c.word.ensures)))
