@@ -14,12 +14,6 @@ invariant-loop s i₀ i = PlainRun i s
 abbrev decreases-loop : tie.decreases-loop-i
 decreases-loop s i₀ i = length s - i
 
-loop-again : tie.Need-loop-i-preserved invariant-loop decreases-loop
-loop-again c =
-    let t = c.before.before.before.before in
-    let l = t.before.loop-i in
-    plain_one t.before.before.args.s.now l.i l.invariant t.loop-i-test.true (c.before.before.if-s-i-gt0.true, c.if-s-i-lt128.true)
-
 pub until_zero_spec : {M : Type 1} → statement M
 until_zero_spec =
     tie.close
@@ -29,7 +23,7 @@ until_zero_spec =
     (λ c. omega arith)
     (λ c. omega arith)
     (λ c. omega arith)
-    loop-again
-    (λ c. c.before.before.before.before.before.loop-i.invariant)
-    (λ c. c.before.before.before.loop-i.invariant)
-    (λ c. c.before.loop-i.invariant))
+    (λ c. plain_one c.args.s.now c.loop-i.i c.loop-i.invariant (omega arith) (omega arith, omega arith))
+    (λ c. c.loop-i.invariant)
+    (λ c. c.loop-i.invariant)
+    (λ c. c.loop-i.invariant))
