@@ -19,7 +19,7 @@ use Rattle.listing_lines.specs.Fields.{newline}
 use Rattle.listing_lines.specs.Lines.{first_line}
 use Rattle.listing.specs.Listing.{messages_of, listed}
 use Rattle.listing_stored.specs.Version.{Version, versions}
-use Rattle.listing_fields.specs.Numbers.{until_newline, fields_of, field}
+use Rattle.listing_fields.specs.Numbers.{until_newline}
 use Rattle.listing_stored.specs.Stored.{Position, start, Rule, Kind, kinds, rule_of, version_of, Told, read_listing}
 use Rattle.listing_stored.specs.Stored as rules
 use Rattle.listing_fields.proofs.Fields.{joined, OneLine, joined_line, line_joined, until_end, fields_joined}
@@ -226,7 +226,7 @@ good_turn v most ih xs (cut l ys one) p place n u h = go (judged v p l) refl (ju
     size = length-append l (newline ∷ ys)
 
     go : (o : Outcome Position) → judged v p l ≡ o → Meets (Next p l) (At p.line) o → (o >>= full v ys) ≡ refused 38 place → Going v p (l ++ newline ∷ ys) place
-    go o e (good {a = q} m) h = one_going v p q l ys place one e m.line (ih ys q place (omega (arith, size)) (omega (arith, size, m.messages)) (unfold ◌>>=◌ in h))
+    go o e (good {a = q} m) h = one_going v p q l ys place one e m.line (ih ys q place (omega (arith, size)) (omega (arith, size, m.messages)) (sym (go_on (full v ys) refl) ∙ h))
     go o e (fault {number} {place = i} f) h = none_going v p (l ++ newline ∷ ys) place (omega arith) (same ∙ f.1)
       where
         same : place ≡ i
