@@ -174,17 +174,6 @@ element_returns_2 t c =
     let e = c.in_default-w.is in
     (rw (scoped_element t c.before, e), rw e tt)
 
-element_add_if1 : (t : ℕ) → element-lts.Need-overflow_add-from (element_calls t) (element_at t) element-reads.Post
-element_add_if1 t c =
-    let p = document_past _ _ _ _ _ _ _ c.document_at-w-in-Scoped.ensures c.in-Past-w.is in
-    omega (arith, p.fits, scoped_arm t c.before.before.before.before, c.document_at-arg-in-Scoped-1.given.1)
-
-element_returns_3 : (t : ℕ) → element-lts.Need-returns-then-from-inner (element_calls t) (element_at t) element-reads.Post
-unfolding element inside ◌>>=◌ refuse
-element_returns_3 t c =
-    let e = c.refused.ensures in
-    (rw (e, scoped_element t c.before.before.before, c.in-Past-w.is, ne_eqb _ _ c.if-from-inner.true), rw e tt)
-
 element_returns_4 : (t : ℕ) → element-lts.Need-returns-in-Plain (element_calls t) (element_at t) element-reads.Post
 unfolding element inside ◌>>=◌ refuse
 element_returns_4 t c = (rw (element, ← c.head.ensures.0, c.in-Plain.is, inside), omega (arith, plain_arm t c))
@@ -195,16 +184,12 @@ element_returns_5 t c =
     let p = document_past _ _ _ _ _ _ _ c.document_at-w.ensures c.in-Past.is in
     (rw (embedded_element t c.before, c.in-Past.is), omega (arith, p.fits, embedded_arm t c.before.before.before, c.document_at-arg-1.given.1))
 
-element_returns_6 : (t : ℕ) → element-lts.Need-returns-else-from-inner (element_calls t) (element_at t) element-reads.Post
-unfolding element inside ◌>>=◌ refuse
-element_returns_6 t c =
-    (rw (scoped_element t c.before.before, c.in-Past-w.is, eq-eqb _ _ c.if-from-inner.false), omega (arith, scoped_arm t c.before.before.before.before.before))
-
 element_returns_7 : (t : ℕ) → element-lts.Need-returns-in-Refused (element_calls t) (element_at t) element-reads.Post
 unfolding element ◌>>=◌ refuse
 element_returns_7 t c = (rw (element, ← c.head.ensures.0, c.in-Refused.is), tt)
 
 pub +document_at_element_spec : {M : Type 1} → statement M
+unfolding element inside ◌>>=◌ refuse
 +document_at_element_spec =
     close μ-document-at μ-element
     (λ t. document-at-lts.spec (document_at_calls t) (document_at_at t) document-at.Post invariant-loop decreases-loop
@@ -259,13 +244,20 @@ pub +document_at_element_spec : {M : Type 1} → statement M
     (λ c. search rules)
     (λ c. search rules)
     (element_returns_2 t)
-    (element_add_if1 t)
+    (λ c.
+    let p = document_past _ _ _ _ _ _ _ c.document_at-w-in-Scoped.ensures c.in-Past-w.is in
+    omega (arith, p.fits, scoped_arm t c.before.before.before.before, c.document_at-arg-in-Scoped-1.given.1))
     (λ c. omega (arith, scoped_arm t c.before.before.before.before.before))
     (λ c κs. search rules)
-    (element_returns_3 t)
+    (λ c.
+    let e = c.refused.ensures in
+    let k : c.in-Scoped.from + c.in-Past-w.inner ≡ c.in-Scoped.size → ⊥ = λ o. omega arith in
+    (rw (e, scoped_element t c.before.before.before, c.in-Past-w.is, ne_eqb _ _ k), rw e tt))
     (λ c. omega (arith, scoped_arm t c.before.before.before.before.before))
     (λ c. search rules)
     (element_returns_4 t)
     (element_returns_5 t)
-    (element_returns_6 t)
+    (λ c.
+    let k : c.in-Scoped.from + c.in-Past-w.inner ≡ c.in-Scoped.size = omega arith in
+    (rw (scoped_element t c.before.before, c.in-Past-w.is, eq-eqb _ _ k), omega (arith, scoped_arm t c.before.before.before.before.before)))
     (element_returns_7 t)
