@@ -12,7 +12,6 @@ use Rattle.wire.specs.Bytes.{until_zero}
 use Rattle.wire.proofs.Outcome.{pass, stop, go_on, halt}
 use Rattle.utf8_text.specs.Inner.{Ended}
 use Rattle.utf8_text.specs.declared.ZeroEnded.{ZeroEnded}
-use Rattle.utf8_text.specs.declared.ZeroEnded.TheVariants as ZeroEnded
 use Rattle.opmsg.specs.Sections.{Parts, sequence_run, sequence_named}
 
 module _ (size : ℕ) (xs : List ℕ) (least : 5 ≤ size) (fits : 1 + size ≤ length xs) (e : ZeroEnded) (found : Ended (take (1 + size - 5) (drop 5 xs)) e) where

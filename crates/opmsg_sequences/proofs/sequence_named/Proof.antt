@@ -7,21 +7,6 @@ use Rattle.opmsg_sequences.proofs.Identifier.{text_inside, broken_inside, empty,
 use Rattle.opmsg_sequences.proofs.sequence_named.Statement.{statement}
 use Rattle.opmsg_sequences.proofs.sequence_named.Tie as tie
 
-nothing-named : tie.Need-returns-then-n-eq0
-nothing-named c =
-    let n = c in
-    let z = c in
-    let a = c in
-    (λ p k. rw c.refused.ensures (sym (empty _ _ a.requires.0 a.requires.1 _ z.far_ended.ensures a.args.at p _ n.in-Text.is c.if-n-eq0.true)), rw c.refused.ensures tt)
-
-documents : tie.Need-returns-else-n-eq0
-documents c =
-    let n = c in
-    let z = c in
-    let a = c in
-    let r = c.sequence_documents.ensures in
-    (λ p k. r.0 p k ∙ sym (text _ _ a.requires.0 a.requires.1 _ z.far_ended.ensures a.args.at p _ n.in-Text.is c.if-n-eq0.false), r.1)
-
 without-zero : tie.Need-returns-in-Unended
 without-zero c =
     let z = c in
@@ -47,7 +32,10 @@ sequence_named_spec =
     (λ c. search rules)
     (λ c. search rules)
     (λ c κs. search rules)
-    nothing-named
+    (λ c.
+    let a = c in
+    let none = empty _ _ a.requires.0 a.requires.1 _ c.far_ended.ensures a.args.at in
+    (λ p k. rw c.refused.ensures (sym (none p _ c.in-Text.is (search rules))), rw c.refused.ensures tt))
     (λ c κs.
     let n = c in
     let z = c in
@@ -63,6 +51,10 @@ sequence_named_spec =
     let a = c in
     omega (arith, broken_inside _ a.args.xs.now a.requires.0 a.requires.1 _ z.far_ended.ensures _ c.in-IllFormed.is))
     (λ c κs. search rules)
-    documents
+    (λ c.
+    let a = c in
+    let some = text _ _ a.requires.0 a.requires.1 _ c.far_ended.ensures a.args.at in
+    let r = c.sequence_documents.ensures in
+    (λ p k. r.0 p k ∙ sym (some p _ c.in-Text.is (search rules)), r.1))
     without-zero
     no_text)
