@@ -46,19 +46,6 @@ returns-4 c =
     let end = get_or-eq_default l.args.bytes.now 0 {n = l.loop-i.i} c.if-bytes-i-3.true in
     agreed_all _ _ l.requires l.loop-i.i l.loop-i.invariant c.loop-i-test.false end
 
-returns-5 : tie.Need-returns-then-bytes-i-gt0 invariant-loop decreases-loop
-returns-5 c =
-    let t = c in
-    let l = c in
-    let end = get_or-eq_default l.args.text.now 0 {n = l.loop-i.i} t.loop-i-test.false in
-    agreed_before _ _ l.requires l.loop-i.i l.loop-i.invariant (omega (arith, end, c.if-bytes-i-gt0.true))
-
-returns-6 : tie.Need-returns invariant-loop decreases-loop
-returns-6 c =
-    let t = c in
-    let l = c in
-    agreed_all _ _ l.requires l.loop-i.i l.loop-i.invariant t.loop-i-test.false (omega (arith, c.if-bytes-i-gt0.false))
-
 pub compare_spec : {M : Type 1} → statement M
 compare_spec =
     tie.close
@@ -79,5 +66,7 @@ compare_spec =
     loop-again
     returns-4
     (λ c. omega arith)
-    returns-5
-    returns-6)
+    (λ c.
+    let end = get_or-eq_default c.args.text.now 0 {n = c.loop-i.i} c.loop-i-test.false in
+    agreed_before _ _ c.requires c.loop-i.i c.loop-i.invariant (omega (arith, end)))
+    (λ c. agreed_all _ _ c.requires c.loop-i.i c.loop-i.invariant c.loop-i-test.false (omega arith)))
