@@ -6,14 +6,6 @@ use Rattle.opmsg_element_names.proofs.Starts.{first_none, first_again}
 use Rattle.opmsg_name_tables.proofs.names_differ.Statement.{statement}
 use Rattle.opmsg_name_tables.proofs.names_differ.Tie as tie
 
-returns : tie.Need-returns-then-place-xs
-returns c =
-    rw c.refused.ensures (sym (first_again _ c.requires.0 _ _ c.first_again-place.ensures c.if-place-xs.true))
-
-returns-2 : tie.Need-returns
-returns-2 c =
-    sym (first_none _ c.requires.0 _ _ c.first_again-place.ensures c.if-place-xs.false)
-
 pub names_differ_spec : {M : Type 1} → statement M
 names_differ_spec =
     tie.close
@@ -22,5 +14,5 @@ names_differ_spec =
     (λ c. search rules)
     (λ c. search rules)
     (λ c κs. search rules)
-    returns
-    returns-2)
+    (λ c. rw c.refused.ensures (sym (first_again _ c.requires.0 _ _ c.first_again-place.ensures (search rules))))
+    (λ c. sym (first_none _ c.requires.0 _ _ c.first_again-place.ensures (search rules))))
