@@ -5,7 +5,6 @@ use mathlib.Core.Bool.{false≢true}
 use mathlib.Core.Path.{◌≡◌}
 use native.Mathlib.Omega.{arith}
 use lib.ListN.{length}
-use borrow.Author.Tests.{not-false}
 use Rattle.opmsg_dotted.specs.Inner.{Undotted}
 use Rattle.opmsg_dotted.proofs.FirstName.{undotted_part}
 use Rattle.opmsg_dotted.proofs.clear_by.Statement.{statement}

@@ -27,15 +27,10 @@ returns-2 c =
     let a = c.args in
     sym (c.loop-i.invariant.2 ∙ alike_other a.text.now a.name.now c.loop-i.i (omega arith) (omega arith) c.if-byte-name.true)
 
-returns-3 : tie.Need-returns-then-byte-eq-DOT invariant-loop decreases-loop
-returns-3 c =
-    let a = c.args in
-    sym (c.loop-i.invariant.2 ∙ alike_dot a.text.now a.name.now c.loop-i.i (omega arith) (omega arith) c.if-byte-eq-DOT.true)
-
 loop-again : tie.Need-loop-i-preserved invariant-loop decreases-loop
 loop-again c =
     let a = c.args in
-    (omega arith, c.loop-i.invariant.1, c.loop-i.invariant.2 ∙ alike_more a.text.now a.name.now c.loop-i.i (omega arith) (omega arith) c.if-byte-name.false c.if-byte-eq-DOT.false)
+    (omega arith, c.loop-i.invariant.1, c.loop-i.invariant.2 ∙ alike_more a.text.now a.name.now c.loop-i.i (omega arith) (omega arith) c.if-byte-name.false (search rules))
 
 returns-4 : tie.Need-returns-then-i-text invariant-loop decreases-loop
 returns-4 c =
@@ -58,7 +53,7 @@ leads_spec =
     (λ c. omega arith)
     (λ c. omega arith)
     returns-2
-    returns-3
+    (λ c. sym (c.loop-i.invariant.2 ∙ alike_dot c.args.text.now c.args.name.now c.loop-i.i (omega arith) (omega arith) (search rules)))
     (λ c. omega arith)
     (λ c. omega arith)
     loop-again

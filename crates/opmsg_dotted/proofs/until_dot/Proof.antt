@@ -3,7 +3,8 @@
 use Prim.Native.Nat.{◌≤◌, ◌+◌, ◌-◌}
 use native.Mathlib.Omega.{arith}
 use mathlib.Core.Path.{◌≡◌}
-use lib.ListN.{length, drop}
+use lib.ListN.{length, get_or, drop}
+use borrow.Author.Rules.{rules}
 use borrow.Author.Tests.{ne_eqb, eq-eqb}
 use Rattle.opmsg.specs.Dotted.{until_dot}
 use Rattle.opmsg_dotted.proofs.FirstName.{at_dot, past_byte, past_all}
@@ -18,11 +19,7 @@ decreases-loop text i₀ i = length text - i
 
 loop-again : tie.Need-loop-i-preserved invariant-loop decreases-loop
 loop-again c =
-    omega (arith, past_byte c.args.text.now c.loop-i.i c.loop-i-test.true (ne_eqb _ _ c.if-text-i-ne-DOT.true))
-
-at-a-dot : tie.Need-returns-else-text-i-ne-DOT invariant-loop decreases-loop
-at-a-dot c =
-    omega (arith, at_dot c.args.text.now c.loop-i.i c.loop-i-test.true (eq-eqb _ _ c.if-text-i-ne-DOT.false))
+    omega (arith, past_byte c.args.text.now c.loop-i.i c.loop-i-test.true (ne_eqb (get_or c.args.text.now c.loop-i.i 0) 46 (search rules)))
 
 at-the-end : tie.Need-returns-after-loop-i invariant-loop decreases-loop
 at-the-end c = omega (arith, past_all c.args.text.now c.loop-i.i c.loop-i-test.false)
@@ -36,5 +33,5 @@ until_dot_spec =
     (λ c. omega arith)
     (λ c. omega arith)
     loop-again
-    at-a-dot
+    (λ c. omega (arith, at_dot c.args.text.now c.loop-i.i c.loop-i-test.true (eq-eqb (get_or c.args.text.now c.loop-i.i 0) 46 (search rules))))
     at-the-end)
