@@ -10,7 +10,7 @@ use lib.IntN.{ℤ}
 use lib.Dec.{ltb, eqb}
 use borrow.Author.Rules.{rules}
 use borrow.Author.Tests.{lt-ltb, le-ltb, ne_eqb, ltb-false}
-use Rattle.wire.specs.Outcome.{ok, ◌>>=◌}
+use Rattle.wire.specs.Outcome.{ok, refused, ◌>>=◌}
 use Rattle.wire.specs.Bytes.{word}
 use Rattle.wire.proofs.Checks.{Check, check, Past, first, next, Answers, answers}
 use Rattle.opmsg.specs.Flags.{all_known}
@@ -19,6 +19,10 @@ use Rattle.opmsg.specs.Read.{read}
 use Rattle.opmsg.proofs.Limits.{checksum_small}
 use Rattle.message.specs.Message.{whole_length}
 use Rattle.message.specs.Write.{written, write}
+use Rattle.opmsg.specs.declared.Edition.{Edition}
+use Rattle.opmsg.specs.declared.Verdict.{Verdict}
+use Rattle.opmsg.specs.declared.Verdict.TheVariants.{Refused}
+use Rattle.message_write_checks.specs.Inner.{Checked}
 use Rattle.message_write_checks.proofs.before_reading.Statement.{statement}
 use Rattle.message_write_checks.proofs.before_reading.Tie as tie
 
@@ -54,8 +58,13 @@ past_2 c = let p = past_1 c.before.before in next p (le-ltb max_length (whole p.
 abbrev past_3 : tie.Else-room-around → Past checks 3
 past_3 c = next (past_2 c.before) (rw (size c.before.before).1 (le-ltb _ _ c.if-room-around.false))
 
-abbrev past_4 : tie.Else-body-lt4 → Past checks 4
-past_4 c = next (past_3 c.before) (le-ltb _ _ c.if-body-lt4.false)
+abbrev past_4 : tie.After-word → Past checks 4
+past_4 w = next (past_3 w.before.before) (le-ltb (length w.args.body.now) 4 (omega arith))
+
+-- a refusal, however it came to be
+refusing : (e : Edition) (flags : ℕ) (body : List ℕ) (room number place : ℕ) (v : Verdict) → v ≡ Refused number place
+    → ((i j : ℤ) → write e i j flags body room ≡ refused number place) → Checked e flags body room v
+refusing e flags body room number place v r f = rw r f
 
 pub before_reading_spec : {M : Type 1} → statement M
 before_reading_spec =
@@ -77,13 +86,15 @@ before_reading_spec =
     (λ c κs. search rules)
     (λ c. let p = c.before.before in rw c.refused-then-room-around.ensures (λ i j. sym (refuses (past_2 p) i j (rw (size p.before).1 (lt-ltb _ _ c.if-room-around.true)))))
     (λ c κs. search rules)
-    (λ c. rw c.refused-then-body-lt4.ensures (λ i j. sym (refuses (past_3 c.before.before) i j (lt-ltb _ _ c.if-body-lt4.true))))
+    (λ c.
+    let a = c.args in
+    refusing a.e a.flags a.body.now a.room 15 21 _ (search rules) (λ i j. sym (refuses (past_3 c.before.before) i j (lt-ltb (length a.body.now) 4 (omega arith)))))
     (λ c κs. search rules)
     (λ c. search rules)
     (λ c κs. search rules)
-    (λ c. let w = c.before.before in rw c.refused-then-word-body.ensures (λ i j. sym (refuses (past_4 w.before) i j (rw (← w.word.ensures, ne_eqb _ _ c.if-word-body.true)))))
+    (λ c. let w = c.before.before in rw c.refused-then-word-body.ensures (λ i j. sym (refuses (past_4 w) i j (rw (← w.word.ensures, ne_eqb _ _ c.if-word-body.true)))))
     (λ c.
-    let h = (past_4 c.before.before).passed in
+    let h = (past_4 c.before).passed in
     record {
       known = h.0.0.0.1;
       limit = ltb-false _ _ h.0.0.1;
