@@ -2,19 +2,22 @@
 -- Assumes nothing.
 use Prim.Native.Nat.{ℕ, ◌+◌, ◌≤◌}
 use mathlib.Core.Bool.{not}
-use mathlib.Core.Path.{refl, sym, ◌∙◌}
+use mathlib.Core.Path.{◌≡◌, refl, sym, ◌∙◌}
 use mathlib.Core.List.{List, [], ◌∷◌}
 use native.Mathlib.Omega.{arith}
 use lib.ListN.{length}
 use lib.Dec.{ltb, leb, eqb}
 use borrow.Author.Rules.{rules}
 use borrow.Author.Tests.{lt-ltb, le-ltb, le-leb, lt-leb, eq-eqb, ne_eqb, ltb-false}
-use Rattle.wire.specs.Outcome.{ok}
+use Rattle.wire.specs.Outcome.{ok, refused}
 use Rattle.wire.specs.Bytes.{until_zero}
 use Rattle.wire.proofs.Checks.{Check, check, Past, first, next, Answers, answers_alone}
 use Rattle.opmsg.specs.Flags.{knows}
 use Rattle.opmsg.specs.Layout.{max_length}
 use Rattle.opmsg.specs.Sections.{max_sequences}
+use Rattle.opmsg.specs.Inner.{judged}
+use Rattle.opmsg.specs.declared.Verdict.{Verdict}
+use Rattle.opmsg.specs.declared.Verdict.TheVariants.{Refused}
 use Rattle.message_append_checks.specs.Inner.{allowed}
 use Rattle.message_append_checks.proofs.checks.between_readings.Statement.{statement}
 use Rattle.message_append_checks.proofs.checks.between_readings.Tie as tie
@@ -47,11 +50,15 @@ past_2 c = next (past_1 c.before) (unfold max_sequences in lt-leb _ _ c.if-count
 abbrev past_3 : tie.Else-n-eq0 → Past checks 3
 past_3 c = next (past_2 c.before) (ne_eqb _ _ c.if-n-eq0.false)
 
-abbrev past_4 : tie.Else-until_zero-n → Past checks 4
-past_4 c = next (past_3 c.before.before) (rw (← c.until_zero.ensures) (le-ltb _ _ c.if-until_zero-n.false))
+abbrev past_4 : tie.After-too_long → Past checks 4
+past_4 l = next (past_3 l.before.before.before) (rw (← l.until_zero.ensures) (le-ltb l.until_zero.result (length l.args.identifier.now) (omega arith)))
 
 abbrev past_5 : tie.Else-too_long → Past checks 5
-past_5 c = next (past_4 c.before.before) (sym c.too_long.ensures ∙ c.if-too_long.false)
+past_5 c = next (past_4 c.before) (sym c.too_long.ensures ∙ c.if-too_long.false)
+
+-- a refusal, however it came to be
+refusing : (number place : ℕ) (v : Verdict) → v ≡ Refused number place → judged v ≡ refused number place
+refusing number place v r = rw r refl
 
 -- the limit is not passed
 short : (c : tie.Else-too_long) → whole (past_5 c).given ≤ max_length
@@ -71,10 +78,10 @@ between_readings_spec =
     (λ c κs. search rules)
     (λ c. search rules)
     (λ c κs. search rules)
-    (λ c. let u = c.before.before in rw c.refused-then-until_zero-n.ensures (answers (past_3 u.before) (rw (← u.until_zero.ensures) (lt-ltb _ _ c.if-until_zero-n.true))))
+    (λ c. let u = c.before.before in refusing 13 (c.args.end + 5) _ (search rules) ∙ answers (past_3 u.before) (rw (← u.until_zero.ensures) (lt-ltb u.until_zero.result (length c.args.identifier.now) (omega arith))))
     (λ c κs. search rules)
     (λ c κs. search rules)
-    (λ c. let l = c.before.before in rw c.refused-then-too_long.ensures (answers (past_4 l.before) (sym l.too_long.ensures ∙ c.if-too_long.true)))
+    (λ c. let l = c.before.before in rw c.refused-then-too_long.ensures (answers (past_4 l) (sym l.too_long.ensures ∙ c.if-too_long.true)))
     (λ c. search rules)
     (λ c. unfold max_length in omega (arith, short c))
     (λ c. unfold max_length in omega (arith, short c))

@@ -1,5 +1,6 @@
 -- `message_append_checks::checks::named` meets its contract: each way out has its test, on what `well_formed` answers.
 -- Assumes nothing.
+use lib.ListN.{length}
 use borrow.Author.Rules.{rules}
 use borrow.Author.Tests.{lt-ltb, le-ltb}
 use Rattle.wire.specs.Outcome.{refuse}
@@ -15,5 +16,5 @@ named_spec =
     (λ c κs. search rules)
     (λ c. search rules)
     (λ c κs. search rules)
-    (λ c. let t = c in rw (c.refused.ensures, text_at, ← t.well_formed-n.ensures, lt-ltb _ _ t.if-n-identifier.true))
-    (λ c. rw (text_at, ← c.well_formed-n.ensures, le-ltb _ _ c.if-n-identifier.false)))
+    (λ c. rw (c.refused.ensures, text_at, ← c.well_formed-n.ensures, lt-ltb c.well_formed-n.result (length c.args.identifier.now) (search rules)))
+    (λ c. rw (text_at, ← c.well_formed-n.ensures, le-ltb c.well_formed-n.result (length c.args.identifier.now) (search rules))))
