@@ -32,34 +32,25 @@ shown c =
     let a = c in
     answer_accepted (read a.args.e a.args.s.now) _ r.read-r.ensures c.in_default.is
 
-returns-2 : tie.Need-returns-then-out-size
-unfolding viewed output ◌>>=◌
-returns-2 c =
-    let t = c.before.before.before in
-    let r = c in
-    let a = c in
-    let f = forward_short a.args.e a.args.s.now (length a.args.out.now) r.read-r.result.view (shown t) c.if-out-size.true in
-    (rw (c.refusal-then-out-size.ensures, f), rw f)
-
 forwarded-requires : tie.Need-forwarded-requires
 forwarded-requires c κs =
     let t = c.before.before.before in
     let r = c in
     let a = c in
-    (record { edition = a.args.e; view = r.read-r.result.view; reads = shown t; size_is = refl; flags_is = refl }, c.if-out-size.false)
+    (record { edition = a.args.e; view = r.read-r.result.view; reads = shown t; size_is = refl; flags_is = refl }, search rules)
 
 returns-3 : tie.Need-returns
 unfolding viewed output forwarded ◌>>=◌
 returns-3 c =
     let w = c.before.before in
-    let l = w.before.before in
-    let t = l.before.before in
+    let t = w.before.before.before.before in
     let r = c in
     let a = c in
-    let f = forward_fits a.args.e a.args.s.now (length a.args.out.now) r.read-r.result.view (shown t) l.if-out-size.false in
+    let f = forward_fits a.args.e a.args.s.now (length a.args.out.now) r.read-r.result.view (shown t) (search rules) in
     (rw f (r.read-r.ensures ∙ ap answer (shown t)), rw f w.forwarded.ensures)
 
 pub forward_spec : {M : Type 1} → statement M
+unfolding viewed output ◌>>=◌
 forward_spec =
     tie.close
     (tie.spec
@@ -70,7 +61,10 @@ forward_spec =
     (λ c. search rules)
     (λ c. search rules)
     (λ c κs. search rules)
-    returns-2
+    (λ c.
+    let a = c.args in
+    let f = forward_short a.e a.s.now (length a.out.now) c.read-r.result.view (shown c.before.before.before) (search rules) in
+    rw f (search rules, refl))
     forwarded-requires
     (λ c. search rules)
     returns-3)
