@@ -1,6 +1,7 @@
 -- `relay_c_results::answered` meets its contract: the call's own refusal, the room for the view, and its numbers.
 -- Assumes nothing.
 use mathlib.Core.Path.{refl}
+use native.Mathlib.Omega.{arith}
 use lib.ListN.{length}
 use borrow.Author.Rules.{rules}
 use Rattle.relay_c_results.specs.Numbers.{view_size}
@@ -17,25 +18,16 @@ returns c =
     let f = own_refusal (length a.args.view.now) (outcome a.args.reading) (outcome_refused a.args.reading v.in-Refused.is) in
     rw f (c.refusal.ensures, refl)
 
-returns-2 : tie.Need-returns-then-view-lt-NUMBERS
-unfolding result_of numbers view_size
-returns-2 c =
-    let t = c in
-    let a = c in
-    let f = no_room (length a.args.view.now) (outcome a.args.reading) c.if-view-lt-NUMBERS.true (outcome_accepted a.args.reading t.in_default.is) in
-    rw f (c.refusal-then-view-lt-NUMBERS.ensures, refl)
-
 returns-3 : tie.Need-returns
 unfolding result_of numbers view_size
 returns-3 c =
-    let l = c in
     let t = c in
     let a = c in
-    let f = has_room (length a.args.view.now) (outcome a.args.reading) l.if-view-lt-NUMBERS.false (outcome_accepted a.args.reading t.in_default.is) in
+    let f = has_room (length a.args.view.now) (outcome a.args.reading) (omega arith) (outcome_accepted a.args.reading t.in_default.is) in
     rw f (refl, c.show.ensures)
 
 pub answered_spec : {M : Type 1} → statement M
-unfolding view_size
+unfolding result_of numbers view_size
 answered_spec =
     tie.close
     (tie.spec
@@ -44,7 +36,9 @@ answered_spec =
     returns
     (λ c. search rules)
     (λ c κs. search rules)
-    returns-2
-    (λ c κs. c.if-view-lt-NUMBERS.false)
+    (λ c.
+    let f = no_room (length c.args.view.now) (outcome c.args.reading) (omega arith) (outcome_accepted c.args.reading c.in_default.is) in
+    rw f (search rules, refl))
+    (λ c κs. omega arith)
     (λ c. search rules)
     returns-3)
