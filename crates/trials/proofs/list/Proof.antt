@@ -5,10 +5,10 @@ use borrow.Author.Rules.{rules}
 use Rattle.trials.proofs.list.Statement.{statement}
 use Rattle.trials.proofs.list.Tie as tie
 
-abbrev invariant-loop : tie.invariant-loop
+abbrev invariant-loop : tie.invariant-loop-i
 invariant-loop entries i₀ i = i ≤ 17
 
-abbrev decreases-loop : tie.decreases-loop
+abbrev decreases-loop : tie.decreases-loop-i
 decreases-loop entries i₀ i = 17 - i
 
 pub list_spec : {M : Type 1} → statement M

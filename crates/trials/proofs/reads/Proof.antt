@@ -6,10 +6,10 @@ use borrow.Author.Rules.{rules}
 use Rattle.trials.proofs.reads.Statement.{statement}
 use Rattle.trials.proofs.reads.Tie as tie
 
-slice-aggregate-read : tie.Need-slice-aggregate-read
+slice-aggregate-read : tie.Need-slice_bounds-read-end
 slice-aggregate-read c =
-    let p2 = c.before.before in
-    sym (length-take-le _ p2.before.before.before.args.message.now p2.if1.true)
+    let p2 = c in
+    sym (length-take-le _ p2.args.message.now p2.if-n-message.true)
 
 pub reads_spec : {M : Type 1} → statement M
 reads_spec =
