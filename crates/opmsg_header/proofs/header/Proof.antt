@@ -2,18 +2,22 @@
 -- Assumes nothing.
 use Prim.Native.Nat.{ℕ}
 use mathlib.Core.Bool.{not}
-use mathlib.Core.Path.{◌≡◌, refl}
+use native.Mathlib.Omega.{arith}
+use mathlib.Core.Path.{◌≡◌, refl, ap, ◌∙◌}
 use mathlib.Core.List.{List, [], ◌∷◌}
 use lib.ListN.{length, drop}
 use lib.Dec.{ltb, eqb}
 use borrow.Author.Rules.{rules}
 use borrow.Author.Tests.{lt-ltb, le-ltb, eq-eqb, ne_eqb}
-use Rattle.wire.specs.Outcome.{ok}
+use Rattle.wire.specs.Outcome.{Outcome, ok, refused}
 use Rattle.wire.specs.Bytes.{word, word_at, under, one_of}
 use Rattle.wire.proofs.Checks.{Check, check, Past, first, next, Answers, answers_alone}
 use Rattle.wire.proofs.Parts.{rest_part}
 use Rattle.opmsg.specs.Layout.{max_length}
 use Rattle.opmsg.specs.Read.{header}
+use Rattle.opmsg.specs.Inner.{judged}
+use Rattle.opmsg.specs.declared.Verdict.{Verdict}
+use Rattle.opmsg.specs.declared.Verdict.TheVariants.{Refused}
 use Rattle.opmsg_header.proofs.header.Statement.{statement}
 use Rattle.opmsg_header.proofs.header.Tie as tie
 
@@ -53,8 +57,12 @@ past_4 c = next (past_3 c.before) (rw (← c.word-n.ensures) (le-ltb _ _ c.if-s-
 abbrev past_5 : tie.Else-older → Past checks 5
 past_5 c = let o = c.before in next (past_4 o.before.before.before) (rw (← opcode o.before, ← o.older.ensures) c.if-older.false)
 
-abbrev past_6 : tie.Else-code-eq2012 → Past checks 6
-past_6 c = next (past_5 c.before) (rw (← opcode c.before.before.before) (ne_eqb _ _ c.if-code-eq2012.false))
+abbrev past_6 : (c : tie.Else-older) → (c.word-code.result ≡ 2012 → ⊥) → Past checks 6
+past_6 c h = next (past_5 c) (rw (← opcode c.before.before) (ne_eqb _ _ h))
+
+-- the verdict that a refusal is
+refusal : (v : Verdict) (number place : ℕ) {o : Outcome (Unit {0})} → v ≡ Refused number place → refused number place ≡ o → judged v ≡ o
+refusal v number place e h = ap judged e ∙ h
 
 pub header_spec : {M : Type 1} → statement M
 header_spec =
@@ -79,7 +87,7 @@ header_spec =
     (λ c κs. search rules)
     (λ c. let o = c.before.before in rw c.refused-then-older.ensures (answers (past_4 o.before.before.before) (rw (← opcode o.before, ← o.older.ensures) c.if-older.true)))
     (λ c κs. search rules)
-    (λ c. let p = c.before.before in rw c.refused-then-code-eq2012.ensures (answers (past_5 p) (rw (← opcode p.before.before) (eq-eqb _ _ c.if-code-eq2012.true))))
+    (λ c. let p = c.before.before in refusal _ 5 12 (search rules) (answers (past_5 p) (rw (← opcode p.before.before) (eq-eqb c.word-code.result 2012 (omega arith)))))
     (λ c κs. search rules)
-    (λ c. let p = c.before.before in rw c.refused-then-code-ne2013.ensures (answers (past_6 p) (rw (← opcode p.before.before.before, ne_eqb _ _ c.if-code-ne2013.true))))
-    (λ c. let p = c.before in answers (next (past_6 p) (rw (← opcode p.before.before.before, eq-eqb _ _ c.if-code-ne2013.false))) refl))
+    (λ c. let p = c.before.before.before in rw c.refused-then-code-ne2013.ensures (answers (past_6 p (λ e. omega arith)) (rw (← opcode p.before.before, ne_eqb _ _ c.if-code-ne2013.true))))
+    (λ c. let p = c.before.before in answers (next (past_6 p (λ e. omega arith)) (rw (← opcode p.before.before, eq-eqb _ _ c.if-code-ne2013.false))) refl))
