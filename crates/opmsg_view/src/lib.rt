@@ -84,6 +84,7 @@ pub fn sequence_count(v: View) -> u32
 }
 
 // The body's part of the message; at 0 where a view shows none.
+#[tactic(auto, using(crate::proofs::Counting::body_returned))]
 pub fn body(v: View) -> Range
     ensures { result ≡ body_of (sections_of v) }
 {

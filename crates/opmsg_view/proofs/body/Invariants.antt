@@ -1,10 +1,9 @@
 use Rattle.std.proofs.Common.{◌-◌, ◌≡◌, ◌≤◌, length}
-use Rattle.opmsg.specs.Sections.{body_of}
-use Rattle.opmsg.proofs.Entries.{said_from}
+use Rattle.opmsg_view.proofs.Counting.{body_from}
 use Rattle.opmsg_view.proofs.body.Given as goal
 
 abbrev pub invariant-loop-i : goal.invariant-loop-i
-invariant-loop-i l = (length l.entries ≡ 17) × (l.i ≤ 17) × (body_of (said_from l.entries 0) ≡ body_of (said_from l.entries l.i))
+invariant-loop-i l = (length l.entries ≡ 17) × (l.i ≤ 17) × (body_from l.entries 0 ≡ body_from l.entries l.i)
 
 abbrev pub decreases-loop-i : goal.decreases-loop-i
 decreases-loop-i l = 17 - l.i

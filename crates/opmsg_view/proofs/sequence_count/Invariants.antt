@@ -1,11 +1,10 @@
 use Rattle.std.proofs.Common.{◌≡◌, ◌+◌, ◌-◌, ◌≤◌, length}
-use Rattle.opmsg.specs.Sections.{sequences_of}
-use Rattle.opmsg.proofs.Entries.{said_from}
+use Rattle.opmsg_view.proofs.Counting.{sequences_from}
 use Rattle.opmsg_view.proofs.sequence_count.Given as goal
 
 abbrev pub invariant-loop-i : goal.invariant-loop-i
 invariant-loop-i l =
-    (length l.entries ≡ 17) × (l.i ≤ 17) × (l.count ≤ l.i) × (l.count + length (sequences_of (said_from l.entries l.i)) ≡ length (sequences_of (said_from l.entries 0)))
+    (length l.entries ≡ 17) × (l.i ≤ 17) × (l.count ≤ l.i) × (l.count + sequences_from l.entries l.i ≡ sequences_from l.entries 0)
 
 abbrev pub decreases-loop-i : goal.decreases-loop-i
 decreases-loop-i l = 17 - l.i
