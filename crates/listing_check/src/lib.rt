@@ -15,7 +15,7 @@ use listing_stored::{
 };
 
 // Where a reader stands: before the first line, or in a listing of a version behind so many lines.
-#[derive(Drop)]
+#[derive(Clone, Copy)]
 pub enum Standing {
     Start,
     Inside(Limits, Place),
