@@ -50,7 +50,7 @@ found_returns t c =
     sym (sought_last _ _ _ c.loop-i.invariant c.loop-i-test.true _ c.name-first.ensures (sym c.leads.ensures ∙ c.if-leads.true) c.if-n-text.true)
 
 -- or it is not the last, and the element is a document
-fits : (t : ℕ) (c : found-lts.Then-xs-i-eq-DOCUMENT (calls t) (found_at t) found-reads.Post invariant-loop decreases-loop)
+fits : (t : ℕ) (c : found-lts.Else-n-text (calls t) (found_at t) found-reads.Post invariant-loop decreases-loop)
     → length c.name-first.result.now < length c.args.text.now
 fits t c =
     sought_fits _ _ _ c.loop-i.invariant c.loop-i-test.true _ c.name-first.ensures (sym c.leads.ensures ∙ c.if-leads.true) c.if-n-text.false
@@ -61,14 +61,14 @@ found_within_requires t c κs =
 
 found_found_requires : (t : ℕ) → found-lts.Need-found-requires (calls t) (found_at t) found-reads.Post invariant-loop decreases-loop
 found_found_requires t c κs = (
-  omega (arith, fits t c.before.before, c.found-arg-1.given.1, c.requires.0),
-  rw c.within.ensures (sought_filled _ _ _ c.loop-i.invariant c.loop-i-test.true c.if-xs-i-eq-DOCUMENT.true),
+  omega (arith, fits t c.before.before.before.before, c.found-arg-1.given.1, c.requires.0),
+  rw c.within.ensures (sought_filled _ _ _ c.loop-i.invariant c.loop-i-test.true (omega arith)),
 )
 
 found_returns_2 : (t : ℕ) → found-lts.Need-returns-then-found (calls t) (found_at t) found-reads.Post invariant-loop decreases-loop
 found_returns_2 t c =
     let a = c.args in
-    sym (sought_within _ _ _ c.loop-i.invariant c.loop-i-test.true _ c.name-first.ensures (sym c.leads.ensures ∙ c.if-leads.true) (fits t c.before.before.before.before) c.if-xs-i-eq-DOCUMENT.true
+    sym (sought_within _ _ _ c.loop-i.invariant c.loop-i-test.true _ c.name-first.ensures (sym c.leads.ensures ∙ c.if-leads.true) (fits t c.before.before.before.before.before.before) (omega arith)
     (rw (c.within.ensures, rest_part (length c.name-first.result.now + 1) a.text.now) at (sym c.found.ensures ∙ c.if-found.true)))
 
 found_next_requires : (t : ℕ) → found-lts.Need-next-i-requires (calls t) (found_at t) found-reads.Post invariant-loop decreases-loop
@@ -104,10 +104,10 @@ pub +found_spec : {M : Type 1} → statement M
     (λ c κs. search rules)
     (found_returns t)
     (λ c. search rules)
-    (λ c. omega (arith, fits t c))
+    (λ c. omega (arith, fits t c.before.before))
     (found_within_requires t)
-    (λ c. omega (arith, fits t c.before))
-    (λ c. omega (arith, fits t c.before))
+    (λ c. omega (arith, fits t c.before.before.before))
+    (λ c. omega (arith, fits t c.before.before.before))
     (λ c. search rules)
     (found_found_requires t)
     (found_returns_2 t)
