@@ -5,6 +5,7 @@ use mathlib.Core.Bool.{Bool}
 use Prim.Native.Nat.{ℕ}
 use mathlib.Core.List.{List}
 use lib.ListN.{length}
+use native.Mathlib.Omega.{arith}
 use borrow.Author.Rules.{rules}
 use borrow.Author.Tests.{eq-eqb, ne_eqb}
 use Rattle.listing.specs.Next.{next}
@@ -33,20 +34,8 @@ returns-2 c =
     let a = p3.args in
     both a.ended a.s.now c.judge.result (rw (p3.if-not-ended.true, next, ← p2.short.ensures, c.if-short.false, ← c.judge.ensures))
 
-returns-3 : tie.Need-returns-then-s-eq0
-unfolding next
-returns-3 c =
-    let a = c.args in
-    both a.ended a.s.now End (rw (c.if-not-ended.false, next, eq-eqb _ _ c.if-s-eq0.true))
-
-returns-4 : tie.Need-returns
-unfolding next
-returns-4 c =
-    let p2 = c in
-    let a = p2.args in
-    both a.ended a.s.now c.judge-2.result (rw (p2.if-not-ended.false, next, ne_eqb _ _ c.if-s-eq0.false, ← c.judge-2.ensures))
-
 pub next_spec : {M : Type 1} → statement M
+unfolding next
 next_spec =
     tie.close
     (tie.spec
@@ -54,6 +43,10 @@ next_spec =
     returns
     (λ c κs. search rules)
     returns-2
-    returns-3
+    (λ c.
+    let none : length c.args.s.now ≡ 0 = omega arith in
+    both c.args.ended c.args.s.now End (rw (c.if-not-ended.false, next, eq-eqb _ _ none)))
     (λ c κs. search rules)
-    returns-4)
+    (λ c.
+    let some : length c.args.s.now ≡ 0 → ⊥ = λ e. omega arith in
+    both c.args.ended c.args.s.now c.judge-2.result (rw (c.if-not-ended.false, next, ne_eqb _ _ some, ← c.judge-2.ensures))))
