@@ -2,6 +2,8 @@
 -- Assumes nothing.
 use mathlib.Core.Path.{◌≡◌, refl}
 use lib.ListN.{length}
+use Prim.Native.Nat.{◌<◌, ◌≤◌}
+use native.Mathlib.Omega.{arith}
 use borrow.Author.Rules.{rules}
 use Rattle.wire.specs.Outcome.{ok}
 use Rattle.opmsg.specs.Read.{read}
@@ -39,32 +41,19 @@ shown : (c : tie.In_default) →
     read e.edition.result e.args.message.now ≡ ok r.read-r.result.view
 shown c = let r = c in answer_accepted _ r.read-r.result r.read-r.ensures c.in_default.is
 
-returns-2 : tie.Need-returns-then-out-size
-returns-2 c =
-    let t = c.before.before.before in
-    let e = c in
-    let a = c in
-    let o = forward e.edition.result a.args.message.now (length a.args.out.now) in
-    rw (← e.edition.ensures)
-    (refused_leaves _ o _ _ (own_refusal _ o (forward_short e.edition.result a.args.message.now _ _ (shown t) c.if-out-size.true)) c.refusal-then-out-size.ensures)
-
 returns-3 : tie.Need-returns-then-view-lt-NUMBERS
 unfolding view_size
 returns-3 c =
-    let f = c.before.before in
-    let t = f.before.before in
-    let e = c in
-    let a = c in
-    let o = forward e.edition.result a.args.message.now (length a.args.out.now) in
-    rw (← e.edition.ensures)
-    (refused_leaves _ o _ _ (no_room _ o c.if-view-lt-NUMBERS.true (forward_fits e.edition.result a.args.message.now _ _ (shown t) f.if-out-size.false)) c.refusal-then-view-lt-NUMBERS.ensures)
+    let t = c.before.before.before.before in
+    let fits : c.read-r.result.view.length ≤ length c.args.out.now = omega arith in
+    let o = forward c.edition.result c.args.message.now (length c.args.out.now) in
+    rw (← c.edition.ensures)
+    (refused_leaves _ o _ _ (no_room _ o c.if-view-lt-NUMBERS.true (forward_fits c.edition.result c.args.message.now _ _ (shown t) fits)) c.refusal-then-view-lt-NUMBERS.ensures)
 
 forwarded-requires : tie.Need-forwarded-requires
 forwarded-requires c κs =
-    let f = c.before.before in
-    let t = f.before.before in
-    let r = c in
-    (record { edition = r.edition.result; view = r.read-r.result.view; reads = shown t; size_is = refl; flags_is = refl }, f.if-out-size.false)
+    let t = c.before.before.before.before in
+    (record { edition = c.edition.result; view = c.read-r.result.view; reads = shown t; size_is = refl; flags_is = refl }, omega arith)
 
 show-requires : tie.Need-show-requires
 unfolding view_size
@@ -75,13 +64,11 @@ unfolding view_size forwarded
 returns-4 c =
     let w = c.before.before.before.before.before.before in
     let l = w.before.before in
-    let f = l.before in
-    let t = f.before.before in
-    let e = c in
-    let a = c in
-    let o = forward e.edition.result a.args.message.now (length a.args.out.now) in
-    rw (← e.edition.ensures)
-    (accepted_leaves _ o _ _ _ _ (has_room _ o l.if-view-lt-NUMBERS.false (forward_fits e.edition.result a.args.message.now _ _ (shown t) f.if-out-size.false)) w.forwarded.ensures c.show.ensures)
+    let t = l.before.before.before in
+    let fits : c.read-r.result.view.length ≤ length c.args.out.now = omega arith in
+    let o = forward c.edition.result c.args.message.now (length c.args.out.now) in
+    rw (← c.edition.ensures)
+    (accepted_leaves _ o _ _ _ _ (has_room _ o l.if-view-lt-NUMBERS.false (forward_fits c.edition.result c.args.message.now _ _ (shown t) fits)) w.forwarded.ensures c.show.ensures)
 
 pub relay_forward_spec : {M : Type 1} → statement M
 relay_forward_spec =
@@ -95,7 +82,12 @@ relay_forward_spec =
     (λ c. search rules)
     (λ c. search rules)
     (λ c κs. search rules)
-    returns-2
+    (λ c.
+    let t = c.before.before.before in
+    let short : length c.args.out.now < c.read-r.result.view.length = omega arith in
+    let o = forward c.edition.result c.args.message.now (length c.args.out.now) in
+    rw (← c.edition.ensures)
+    (refused_leaves _ o _ _ (own_refusal _ o (forward_short c.edition.result c.args.message.now _ _ (shown t) short)) (search rules)))
     (λ c κs. search rules)
     returns-3
     forwarded-requires
