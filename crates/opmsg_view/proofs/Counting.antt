@@ -19,7 +19,7 @@ unfoldable pub body_from : List Entry → ℕ → Range
 body_from entries i = body_of (said_from entries i)
 
 -- an entry that is no sequence, or no body, as a tag
-no_sequence_here : (q : Section) → ((identifier documents : Range) (number : ℕ) → q ≡ Sequence identifier documents number → ⊥) → NoSequence q
+pub no_sequence_here : (q : Section) → ((identifier documents : Range) (number : ℕ) → q ≡ Sequence identifier documents number → ⊥) → NoSequence q
 no_sequence_here None h = inl refl
 no_sequence_here (Body range) h = inr refl
 no_sequence_here (Sequence identifier documents number) h = absurd (h identifier documents number refl)

@@ -1,4 +1,3 @@
--- The loop's invariant: the body is that of the entries from i on. The measure is the number of entries left.
 use Rattle.std.proofs.Common.{rules, arith, refl, sym, ap, ◌∙◌}
 use Rattle.opmsg.specs.Sections.{body_of}
 use Rattle.opmsg.specs.View.{sections_of}

@@ -1,3 +1,4 @@
+-- The loop's invariant: the body is that of the entries from i on. The measure is the number of entries left.
 use Rattle.std.proofs.Common.{◌-◌, ◌≡◌, ◌≤◌, length}
 use Rattle.opmsg_view.proofs.Counting.{body_from}
 use Rattle.opmsg_view.proofs.body.Given as goal

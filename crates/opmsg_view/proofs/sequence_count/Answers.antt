@@ -1,4 +1,3 @@
--- The loop's invariant: what is counted, and what the entries from i on say, is all. The measure is the number of entries left.
 use Rattle.std.proofs.Common.{List, length, rules, arith, ap}
 use Rattle.opmsg.specs.Sections.{sequences_of}
 use Rattle.opmsg.specs.View.{sections_of, sequence_count}

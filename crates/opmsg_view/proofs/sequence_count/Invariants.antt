@@ -1,3 +1,4 @@
+-- The loop's invariant: what is counted, and what the entries from i on say, is all. The measure is the number of entries left.
 use Rattle.std.proofs.Common.{◌≡◌, ◌+◌, ◌-◌, ◌≤◌, length}
 use Rattle.opmsg_view.proofs.Counting.{sequences_from}
 use Rattle.opmsg_view.proofs.sequence_count.Given as goal

@@ -1,19 +1,10 @@
 -- Each turn puts one sequence to its entry, and the body goes to the one that is left.
-use Rattle.std.proofs.Common.{◌≡◌, ℕ, inl, inr, rules, arith, refl}
+use Rattle.std.proofs.Common.{rules, arith, refl}
 use Rattle.opmsg.specs.Sections.{max_sequences}
-use Rattle.opmsg.specs.declared.Range.{Range}
-use Rattle.opmsg.specs.declared.Section.{Section}
-use Rattle.opmsg.specs.declared.Section.TheVariants.{None, Body, Sequence}
-use Rattle.opmsg.proofs.Entries.{NoSequence}
+use Rattle.opmsg_view.proofs.Counting.{no_sequence_here}
 use Rattle.message_move.proofs.Spots.{spot_near, orders_none, orders_room, orders_sequence, orders_other, orders_all}
 use Rattle.message_move.proofs.order.reordered.Goals as goal
 use Rattle.message_move.proofs.order.reordered.Goals.{in-Sequence, in_default}
-
--- an entry that is no sequence, as a tag
-no_sequence_here : (q : Section) → ((identifier documents : Range) (number : ℕ) → q ≡ Sequence identifier documents number → ⊥) → NoSequence q
-no_sequence_here None h = inl refl
-no_sequence_here (Body range) h = inr refl
-no_sequence_here (Sequence identifier documents number) h = absurd (h identifier documents number refl)
 
 pub loop-i-init : goal.loop-i-init
 loop-i-init c = (search rules, omega arith, rw c.no_entries-list.ensures (orders_none c.args.v c.args.behind))
