@@ -1,53 +1,66 @@
 -- Laws of documents and elements that the proof of the code's cycle of calls cites: what each part that was read makes of the whole.
 -- Assumes nothing.
-use Prim.Native.Nat.{ℕ, zero, suc, ◌+◌, ◌-◌, ◌^◌, ◌<◌}
+use Prim.Native.Nat.{ℕ, zero, suc, ◌+◌, ◌-◌, ◌^◌, ◌≤◌, ◌<◌}
 use mathlib.Core.List.{List}
-use mathlib.Core.Path.{◌≡◌, refl, sym, ap, ◌∙◌}
+use mathlib.Core.Bool.{not}
+use mathlib.Core.Path.{◌≡◌, refl, sym, ap}
 use native.Mathlib.Omega.{arith}
 use native.Mathlib.Numerals.{sub-one}
-use lib.ListN.{take, drop}
-use Rattle.wire.specs.Outcome.{Outcome, ok, refused, ◌>>=◌}
-use Rattle.wire.specs.Walk.{Step, step, walk}
-use Rattle.wire.proofs.Outcome.{not_ok, ok_same, bound, check_leb}
-use Rattle.bson_elements.specs.Element.{Head, head, element, max_elements}
-use Rattle.bson.specs.Document.{frame, document_at, told}
-use Rattle.bson.specs.Inner.{without_elements}
-use Rattle.bson.specs.declared.Walk.{Walk}
-use Rattle.bson.proofs.Frame.{Framed, frame_is, document_framed}
-
--- a document that was passed is as long as it says
-pub document_past : (levels at : ℕ) (xs : List ℕ) (count size total : ℕ) (w : Walk) → told w ≡ document_at levels at xs count → w ≡ Walk.Past size total → Framed xs size
-document_past levels at xs count size total w e h = document_framed levels at xs count (record { size = size; state = total }) (sym e ∙ ap told h)
+use lib.ListN.{length, take, drop, length-drop}
+use lib.Dec.{eqb}
+use Rattle.wire.specs.Outcome.{ok, refused, refuse, ◌>>=◌}
+use Rattle.wire.specs.Walk.{Reader, step, walk}
+use Rattle.wire.proofs.Outcome.{check_leb}
+use Rattle.wire.proofs.Parts.{rest_part}
+use Rattle.bson_values.specs.Value.{plain, embedded, scoped}
+use Rattle.bson_elements.specs.Element.{Head, head, inside, element, max_elements}
+use Rattle.bson.specs.Document.{frame, document_at}
+use Rattle.bson.proofs.Frame.{Framed, frame_is}
 
 -- where an element was begun, the limit is not reached, so that one more can be counted
-pub few : (at : ℕ) (xs : List ℕ) (count : ℕ) (h : Head) → head at xs count ≡ ok h → count < 2 ^ 31
+pub few : (at : ℕ) (xs : List ℕ) (count : ℕ) (h : Head) → ok h ≡ head at xs count → count < 2 ^ 31
 unfolding head max_elements
-few at xs count h e = omega (arith, ((check_leb _ _ _ _ max_elements count).0 e).0)
+few at xs count h e = omega (arith, ((check_leb _ _ _ _ max_elements count).0 (sym e)).0)
 
 -- a document: none at no level; else its frame, and then its elements
-pub no_level : (levels at : ℕ) (xs : List ℕ) (count : ℕ) → levels ≡ 0 → document_at levels at xs count ≡ refused 20 at
+pub no_level : (levels at : ℕ) (xs : List ℕ) (count : ℕ) → levels ≡ 0 → refused 20 at ≡ document_at levels at xs count
 unfolding document_at
 no_level levels at xs count e = rw e
 
-module _ (at : ℕ) (xs : List ℕ) (count : ℕ) (w : Walk) (e : told w ≡ without_elements (frame at xs) count) where
-  shut_frame : (number place : ℕ) → w ≡ Walk.Refused number place → (o : Outcome ℕ) → frame at xs ≡ o → frame at xs ≡ refused number place
-  unfolding ◌>>=◌
-  shut_frame number place h (ok n) f = not_ok (sym (ap told h) ∙ rw f at e)
-  shut_frame number place h (refused m p) f = let same = sym (rw f at e) ∙ ap told h in rw f (cc)
-
-  pub shut : (levels : ℕ) → (levels ≡ 0 → ⊥) → (number place : ℕ) → w ≡ Walk.Refused number place → document_at levels at xs count ≡ refused number place
+module _ (at : ℕ) (xs : List ℕ) (count : ℕ) where
+  pub shut : (levels : ℕ) → (levels ≡ 0 → ⊥) → (number place : ℕ) → refused number place ≡ frame at xs → refused number place ≡ document_at levels at xs count
   unfolding document_at ◌>>=◌
   shut zero l number place h = absurd (l refl)
-  shut (suc k) l number place h = rw (document_at, shut_frame number place h (frame at xs) refl)
+  shut (suc k) l number place h = rw (document_at, ← h)
 
-  open_frame : (n c : ℕ) → w ≡ Walk.Past n c → frame at xs ≡ ok n
-  open_frame n c h = bound (frame at xs) _ (sym e ∙ ap told h) λ m f g. f ∙ ap ok (ap (λ (r : Step ℕ). r.size) (ok_same g))
-
-  pub opens : (levels : ℕ) → (levels ≡ 0 → ⊥) → (n c : ℕ) → w ≡ Walk.Past n c
+  pub opens : (levels : ℕ) → (levels ≡ 0 → ⊥) → (n : ℕ) → ok n ≡ frame at xs
       → Framed xs n × (document_at levels at xs count ≡ (walk (element (document_at (levels - 1))) n (at + 4) (take (n - 1 - 4) (drop 4 xs)) count >>= step n))
   unfolding document_at ◌>>=◌
-  opens zero l n c h = absurd (l refl)
-  opens (suc k) l n c h =
-      let f = open_frame n c h in
+  opens zero l n h = absurd (l refl)
+  opens (suc k) l n h =
       let five : n - 1 - 4 ≡ n - 5 = omega arith in
-      ((frame_is at xs n).0 f, rw (sub-one (suc k), five, document_at, f))
+      ((frame_is at xs n).0 (sym h), rw (sub-one (suc k), five, document_at, ← h))
+
+-- an element by its head, and by what the document in it is: `rest` is the part `&xs[start..]`
+module _ (document : Reader ℕ) (at : ℕ) (xs : List ℕ) (count start : ℕ) where
+  abbrev rest : List ℕ
+  rest = take (length xs - start) (drop start xs)
+
+  pub plain_element : (size : ℕ) → ok (record { start = start; value = plain size }) ≡ head at xs count → step (start + size) (count + 1) ≡ element document at xs count
+  unfolding element inside ◌>>=◌
+  plain_element size h = rw (element, ← h, inside)
+
+  pub embedded_element : ok (record { start = start; value = embedded }) ≡ head at xs count
+      → (document (at + start) rest (count + 1) >>= λ r. step (start + r.size) r.state) ≡ element document at xs count
+  unfolding element inside ◌>>=◌
+  embedded_element h = rw (element, ← h, inside, rest_part start xs)
+
+  pub scoped_element : (from size : ℕ) → ok (record { start = start; value = scoped from size }) ≡ head at xs count
+      → ((document (at + start + from) (take (size - from) (drop from rest)) (count + 1) >>= λ d. refuse 19 (at + start) (not (eqb (from + d.size) size)) >>= λ _. step size d.state) >>= λ r. step (start + r.size) r.state)
+      ≡ element document at xs count
+  unfolding element inside ◌>>=◌
+  scoped_element from size h = rw (element, ← h, inside, rest_part start xs)
+
+  -- how long it is
+  pub long : start ≤ length xs → start + length rest ≡ length xs
+  long l = omega (arith, ap length (rest_part start xs), length-drop start xs)

@@ -1,12 +1,13 @@
 -- Documents at all levels: how far they reach and how many elements they hold, or the first fault from left to right.
 -- A place is counted in the message; `at` is the place of the first byte of xs. Assumes nothing: these are definitions.
-use Rattle.std.specs.Prelude.{ℕ, zero, suc, ◌+◌, ◌-◌, not, List, length, get_or, take, drop, ltb, eqb}
+use Rattle.std.specs.Prelude.{ℕ, zero, suc, ◌+◌, ◌-◌, not, List, Result, Ok, Err, length, get_or, take, drop, ltb, eqb}
 use Rattle.wire.specs.Outcome.{Outcome, ok, refused, refuse, ◌>>=◌}
 use Rattle.wire.specs.Bytes.{word, under}
 use Rattle.wire.specs.Walk.{Step, step, Reader, walk}
 use Rattle.bson_elements.specs.Element.{element}
+use Rattle.refusal.specs.declared.Refusal.{Refusal}
+use Rattle.refusal.specs.Told.{number}
 use Rattle.bson.specs.declared.Walk.{Walk}
-use Rattle.bson.specs.declared.Walk.TheVariants.{Past, Refused}
 
 -- the limit of document 01
 unfoldable pub max_levels : ℕ
@@ -31,6 +32,6 @@ document_at (suc levels) at xs count = do
   step n counted
 
 -- the answer of a reader of documents, in document 01's terms
-abbrev pub told : Walk → Outcome (Step ℕ)
-told (Past size count) = step size count
-told (Refused number place) = refused number place
+abbrev pub told : Result Walk Refusal → Outcome (Step ℕ)
+told (Ok w) = step w.size w.count
+told (Err r) = refused (number r.reason) r.place

@@ -232,7 +232,7 @@ each (Memᴰ.tail m) (p & ps) = each m ps
 
 among : (ys : List ℕ) (x : ℕ) → one_of ys x ≡ true → x ∈ ys
 unfolding one_of
-among [] x e = absurd (let z : ◌≡◌ {A = ℕ} 0 1 = cc in omega arith)
+among [] x e = cc
 among (y ∷ ys) x e = go (eqb x y) refl (among ys x)
   where
     go : (t : Bool) → eqb x y ≡ t → (one_of ys x ≡ true → x ∈ ys) → x ∈ y ∷ ys

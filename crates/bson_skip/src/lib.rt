@@ -9,27 +9,21 @@ ghost use Rattle.bson_values.specs.Inner.{rule_of};
 ghost use Rattle.bson_elements.specs.Element.{element_size};
 ghost use Rattle.bson_skip.specs.Inner.{span};
 
-use bson_values::{Kind, Lookup, kind_of};
+use bson_values::{Kind, kind_of};
 use wire::{until_zero, word};
 
-// How many bytes two zero-ended strings take, where they keep their rule.
+// How many bytes two zero-ended strings take, which keep their rule.
 fn pair(s: &[u8]) -> usize
+    requires { (v n : ℕ) × (regex v s.now ≡ ok n) }
     ensures { (v n : ℕ) → regex v s.now ≡ ok n → result ≡ n }
 {
-    let m = until_zero(s);
-    if s.len() <= m {
-        return 0;
-    }
-    let second = m + 1;
-    let n = until_zero(&s[second..]);
-    if s.len() <= second + n {
-        return 0;
-    }
-    second + n + 1
+    let second = until_zero(s) + 1;
+    second + until_zero(&s[second..]) + 1
 }
 
-// How many bytes a value of some kind takes, where it keeps its rule.
+// How many bytes a value of some kind takes, which keeps its rule.
 fn skip(k: Kind, s: &[u8]) -> usize
+    requires { (v : ℕ) × (x : Value) × (rule_of k v s.now ≡ ok x) }
     ensures { (v : ℕ) (x : Value) → rule_of k v s.now ≡ ok x → result ≡ span s.now x }
 {
     match k {
@@ -39,8 +33,7 @@ fn skip(k: Kind, s: &[u8]) -> usize
         Kind::Binary => 5 + word(s) as usize,
         Kind::Regex => pair(s),
         Kind::Pointer => 16 + word(s) as usize,
-        Kind::Embedded => word(s) as usize,
-        Kind::Code => word(s) as usize,
+        Kind::Embedded | Kind::Code => word(s) as usize,
     }
 }
 
@@ -51,8 +44,6 @@ pub fn element_size(s: &[u8], n: usize) -> usize
     ensures { result ≡ element_size s.now }
 {
     let start = n + 2;
-    let Lookup::Listed(kind) = kind_of(s[0]) else {
-        return 0;
-    };
+    let kind = kind_of(s[0]).unwrap();
     start + skip(kind, &s[start..])
 }

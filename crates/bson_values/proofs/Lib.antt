@@ -1,5 +1,3 @@
-pub mod Types
 pub mod Value
-pub mod Rows
-pub mod Pairs
+pub mod Parts
 pub mod Examples

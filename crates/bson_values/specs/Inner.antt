@@ -1,44 +1,72 @@
 -- What the answers of the functions stand for in document 01's terms, and how far they reach.
 -- Assumes nothing: these are definitions.
-use Rattle.std.specs.Prelude.{ℕ, ◌+◌, ◌-◌, ◌≤◌, Bool, true, false, not, ◌&&◌, ◌||◌, List, ◌≡◌, get_or, drop, ltb, eqb}
-use Rattle.wire.specs.Outcome.{Outcome, ok, refused, ◌>>=◌}
-use Rattle.wire.specs.Bytes.{word}
-use Rattle.bson_values.specs.Value.{Value, plain, embedded, scoped, sized, boolean, string, binary, regex, pointer, code_with_scope, bytes, Rule, table, rule_in}
-use Rattle.bson_values.specs.declared.Extent.{Extent}
+use Rattle.std.specs.Prelude.{ℕ, ◌+◌, ◌-◌, ◌^◌, ◌≤◌, ◌<◌, Bool, not, ◌&&◌, ◌||◌, List, ◌≡◌, Option, Some, None, Result, Ok, Err, length, get_or, drop, ltb, eqb}
+use Rattle.wire.specs.Outcome.{Outcome, ok, refused, refuse, ◌>>=◌}
+use Rattle.wire.specs.Bytes.{word, under}
+use Rattle.bson_values.specs.Value.{Value, plain, embedded, scoped, sized, boolean, string, binary, regex, pointer, code_with_scope, bytes, Rule}
+use Rattle.utf8_text.specs.declared.TextError.{TextError}
+use Rattle.bson_values.specs.declared.ValueError.{ValueError}
 use Rattle.bson_values.specs.declared.Shape.{Shape}
 use Rattle.bson_values.specs.declared.Kind.{Kind}
-use Rattle.bson_values.specs.declared.Lookup.{Lookup}
 
--- how many bytes something takes that begins at a place and belongs to the value at place v; of text that is not UTF-8, how far from that place
--- its longest well-formed beginning ends. All of it lies within n bytes
-abbrev pub extent : (v at : ℕ) → Extent → Outcome ℕ
-extent v at (Extent.Takes n) = ok n
-extent v at Extent.Broken = refused 19 v
-extent v at (Extent.IllFormed n) = refused 27 (at + n)
+-- why something that begins at a place, and belongs to the value at place v, is no value; of text that is not UTF-8, how far from that place
+-- its longest well-formed beginning ends, which lies within n bytes
+abbrev pub fault : {A : Type 0} → (v at : ℕ) → ValueError → Outcome A
+fault v at ValueError.Broken = refused 19 v
+fault v at (ValueError.IllFormed n) = refused 27 (at + n)
 
-abbrev pub ExtentWithin : (n : ℕ) → Extent → Type 0
-ExtentWithin n (Extent.Takes m) = m ≤ n
-ExtentWithin n Extent.Broken = Unit {0}
-ExtentWithin n (Extent.IllFormed m) = m ≤ n
+abbrev pub FaultWithin : (n : ℕ) → ValueError → Type 0
+FaultWithin n ValueError.Broken = Unit {0}
+FaultWithin n (ValueError.IllFormed m) = m ≤ n
+
+-- how many bytes it takes, where it is one. All of it lies within n bytes
+abbrev pub extent : (v at : ℕ) → Result ℕ ValueError → Outcome ℕ
+extent v at (Ok n) = ok n
+extent v at (Err e) = fault v at e
+
+abbrev pub ExtentWithin : (n : ℕ) → Result ℕ ValueError → Type 0
+ExtentWithin n (Ok m) = m ≤ n
+ExtentWithin n (Err e) = FaultWithin n e
+
+-- text that no zero ends breaks the rule of its value
+abbrev pub Unread : TextError → ValueError → Type 0
+Unread TextError.Unended e = e ≡ ValueError.Broken
+Unread (TextError.IllFormed n) e = e ≡ ValueError.IllFormed n
+
+-- the signed length, of at least some number, that xs begins with
+abbrev pub counted : (v least : ℕ) → List ℕ → Outcome ℕ
+counted v least xs = do
+  _ ← refuse 19 v (ltb (length xs) 4)
+  _ ← refuse 19 v (under least (word xs))
+  ok (word xs)
+
+abbrev pub Counted : (least : ℕ) → List ℕ → Result ℕ ValueError → Type 0
+Counted least xs (Ok n) = (least ≤ n) × (n < 2 ^ 31) × (4 ≤ length xs)
+Counted least xs (Err e) = e ≡ ValueError.Broken
 
 -- with m bytes before it
 abbrev pub behind : (m : ℕ) → Outcome ℕ → Outcome ℕ
 behind m o = o >>= λ n. ok (m + n)
 
--- the value at place v, which lies within n bytes
-abbrev pub shape : (v : ℕ) → Shape → Outcome Value
-shape v (Shape.Plain size) = ok (plain size)
-shape v Shape.Embedded = ok embedded
-shape v (Shape.Scoped start size) = ok (scoped start size)
-shape v Shape.Faulty = refused 19 v
-shape v (Shape.IllFormed n) = refused 27 (v + n)
+-- what a value is, and that it lies within n bytes
+abbrev pub value : Shape → Value
+value (Shape.Plain size) = plain size
+value Shape.Embedded = embedded
+value (Shape.Scoped start size) = scoped start size
 
-abbrev pub ShapeWithin : (n : ℕ) → Shape → Type 0
-ShapeWithin n (Shape.Plain size) = size ≤ n
-ShapeWithin n Shape.Embedded = Unit {0}
-ShapeWithin n (Shape.Scoped start size) = (start ≤ size) × (size ≤ n)
-ShapeWithin n Shape.Faulty = Unit {0}
-ShapeWithin n (Shape.IllFormed m) = m ≤ n
+abbrev pub LiesWithin : (n : ℕ) → Shape → Type 0
+LiesWithin n (Shape.Plain size) = size ≤ n
+LiesWithin n Shape.Embedded = Unit {0}
+LiesWithin n (Shape.Scoped start size) = (start ≤ size) × (size ≤ n)
+
+-- the value at place v, where it is one. All of it lies within n bytes
+abbrev pub shape : (v : ℕ) → Result Shape ValueError → Outcome Value
+shape v (Ok x) = ok (value x)
+shape v (Err e) = fault v v e
+
+abbrev pub ShapeWithin : (n : ℕ) → Result Shape ValueError → Type 0
+ShapeWithin n (Ok x) = LiesWithin n x
+ShapeWithin n (Err e) = FaultWithin n e
 
 -- of subtype 2, the n bytes do not begin with a length that is n − 4
 abbrev pub miscounted : (n : ℕ) → List ℕ → Bool
@@ -55,11 +83,6 @@ rule_of Kind.Pointer v xs = bytes (pointer v xs)
 rule_of Kind.Embedded v xs = ok embedded
 rule_of Kind.Code v xs = code_with_scope v xs
 
-abbrev pub rule_found : (at : ℕ) → Lookup → Outcome Rule
-rule_found at (Lookup.Listed k) = ok (rule_of k)
-rule_found at Lookup.Unlisted = refused 17 at
-
--- whether a type stands in no row
-abbrev pub Unlisted : (t : ℕ) → Bool → Type 0
-Unlisted t true = (at : ℕ) → rule_in table at t ≡ refused 17 at
-Unlisted t false = (at : ℕ) → (rule : Rule) × (rule_in table at t ≡ ok rule)
+abbrev pub rule_found : (at : ℕ) → Option Kind → Outcome Rule
+rule_found at (Some k) = ok (rule_of k)
+rule_found at None = refused 17 at

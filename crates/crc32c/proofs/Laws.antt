@@ -2,13 +2,14 @@
 -- Assumes nothing.
 use mathlib.Core.Path.{◌≡◌, refl, sym, ap, ◌∙◌}
 use mathlib.Core.List.{List, [], ◌∷◌, ◌++◌}
-use Prim.Native.Nat.{ℕ, ◌+◌, ◌-◌, ◌*◌, ◌/◌, ◌%◌, ◌^◌, ◌≤◌, ◌<◌}
-use native.Mathlib.Nat.{le_refl}
-use native.Mathlib.Numerals.{add-one}
+use Prim.Native.Nat.{ℕ, zero, suc, ◌+◌, ◌*◌, ◌/◌, ◌%◌, ◌^◌, ◌≤◌}
+use native.Mathlib.Nat.{suc-mul}
 use native.Mathlib.Omega.{arith}
-use lib.ListN.{length, take, drop, get_or, length-drop, take-append-drop}
-use lib.Seq.{take_all, drop-cons, drop-length, drop-drop}
+use lib.ListN.{length, take, drop, length-drop, take-append-drop}
+use lib.Seq.{drop-drop}
 use lib.Bits.{bit_xor}
+use Rattle.std.specs.List.{fold}
+use Rattle.std.specs.Simd.{first_chunks}
 use Rattle.crc32c_tables.specs.Steps.{shift_bits}
 use Rattle.crc32c_tables.proofs.Laws.{linear, shift_add, shift_up}
 use Rattle.crc32c.specs.Crc.{into_byte, register_after}
@@ -42,24 +43,16 @@ unfolding register_after
 register_append c [] b = refl
 register_append c (x ∷ a) b = register_append (into_byte c x) a b
 
--- one turn of a loop that has passed i bytes
-pub register_turn : (c d : ℕ) (s : List ℕ) (i : ℕ) → i < length s → d ≡ into_byte c (get_or s i 0)
-    → register_after d (drop (i + 1) s) ≡ register_after c (drop i s)
+-- byte by byte
+pub register_fold : (c : ℕ) (s : List ℕ) → register_after c s ≡ fold into_byte c s
 unfolding register_after
-register_turn c d s i h e = rw (e, add-one, drop-cons s i 0)
+register_fold c [] = refl
+register_fold c (b ∷ s) = register_fold (into_byte c b) s
 
-pub register_done : (c : ℕ) (s : List ℕ) (i : ℕ) → i ≡ length s → register_after c (drop i s) ≡ c
-unfolding register_after
-register_done c s i e = rw (e, drop-length)
-
--- a part of the bytes, from i to e
-pub register_part : (c d : ℕ) (s : List ℕ) (i e : ℕ) → i ≤ e → d ≡ register_after c (take (e - i) (drop i s))
-    → register_after d (drop e s) ≡ register_after c (drop i s)
-register_part c d s i e h q =
-    let end : i + (e - i) ≡ e = omega arith in
-    let rest : drop e s ≡ drop (e - i) (drop i s) = sym (drop-drop (e - i) i s ∙ ap (λ (n : ℕ). drop n s) end) in
-    rw (q, rest) (sym (register_append c (take (e - i) (drop i s)) (drop (e - i) (drop i s)))) ∙ ap (register_after c) (take-append-drop (e - i) (drop i s))
-
--- and from i to the end
-pub register_rest : (c d : ℕ) (s : List ℕ) (i : ℕ) → d ≡ register_after c (take (length s - i) (drop i s)) → d ≡ register_after c (drop i s)
-register_rest c d s i e = e ∙ ap (register_after c) (take_all (length s - i) (drop i s) (simp length-drop (le_refl (length s - i))))
+-- k chunks of n bytes, and what is left behind them
+pub register_chunks : (n k c : ℕ) (s : List ℕ) → k * n ≤ length s → register_after (fold register_after c (first_chunks n k s)) (drop (k * n) s) ≡ register_after c s
+register_chunks n zero c s h = let none : 0 * n ≡ 0 = omega arith in rw none refl
+register_chunks n (suc k) c s h =
+    let all : suc k * n ≡ n + k * n = omega (arith, suc-mul k n) in
+    rw (all, ← drop-drop (k * n) n s) (register_chunks n k (register_after c (take n s)) (drop n s) (omega (arith, length-drop n s)))
+    ∙ sym (register_append c (take n s) (drop n s)) ∙ ap (register_after c) (take-append-drop n s)

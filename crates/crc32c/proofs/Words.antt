@@ -3,32 +3,36 @@
 use mathlib.Core.Path.{◌≡◌, refl, sym, ap, ap₂, ◌∙◌, subst⁻¹}
 use mathlib.Core.List.{List, [], ◌∷◌}
 use Prim.Native.Nat.{ℕ, zero, suc, ◌+◌, ◌-◌, ◌*◌, ◌/◌, ◌%◌, ◌^◌, ◌≤◌, ◌<◌}
-use native.Mathlib.Nat.{add-zero, div-eq_of_lt, div-one}
+use native.Mathlib.Nat.{div-eq_of_lt, div-one}
 use native.Mathlib.Omega.{arith}
 use lib.Dec.{lit<, lit≤}
 use lib.ListN.{length, take, drop, get_or, length-take, length-drop, take-append-drop}
-use lib.Seq.{take_all, take-suc, get_or-drop, drop-drop}
+use lib.Seq.{take_all, take-suc, take-take, length-take-le, get_or-drop}
 use lib.Pow.{shr-shr}
 use lib.Bits.{bit_xor, xor_comm, xor_zero_r, xor_shifted}
+use Rattle.std.specs.Int.{w32, from_le_bytes}
 use Rattle.crc32c_tables.specs.Steps.{shift_bits}
 use Rattle.crc32c.specs.Crc.{into_byte, register_after}
-use Rattle.crc32c.specs.Inner.{little_endian}
 use Rattle.crc32c_tables.proofs.Xor.{xor_assoc, xor_split}
 use Rattle.crc32c_tables.proofs.Laws.{linear, shift_add, shift_up, shift_zero}
 use Rattle.crc32c.proofs.Laws.{register_append}
 
--- ---- a number of four bytes, and of eight
+-- the number whose bytes, lowest first, are s
+unfoldable pub little_endian : List ℕ → ℕ
+little_endian [] = 0
+little_endian (b ∷ s) = little_endian s * 256 + b
 
-four_of : (s : List ℕ) → 4 ≤ length s → little_endian (take 4 s) ≡ get_or s 0 0 + get_or s 1 0 * 0x100 + get_or s 2 0 * 0x1_0000 + get_or s 3 0 * 0x100_0000
+-- of four bytes, it is std's
+four_of : (s : List ℕ) → 4 ≤ length s → little_endian (take 4 s) ≡ from_le_bytes w32 s
 unfolding little_endian
 four_of s h =
     rw (take-suc s 3 0 (omega arith), take-suc s 2 0 (omega arith), take-suc s 1 0 (omega arith), take-suc s 0 0 (omega arith))
     (omega arith)
 
-pub four_at : (s : List ℕ) (i : ℕ) → i + 4 ≤ length s
-    → little_endian (take 4 (drop i s)) ≡ get_or s i 0 + get_or s (i + 1) 0 * 0x100 + get_or s (i + 2) 0 * 0x1_0000 + get_or s (i + 3) 0 * 0x100_0000
-four_at s i h = four_of (drop i s) (simp length-drop (omega arith)) ∙ simp (get_or-drop, add-zero) refl
+four : (s : List ℕ) → 4 ≤ length s → from_le_bytes w32 (take 4 s) ≡ little_endian (take 4 s)
+four s h = sym (four_of (take 4 s) (omega (arith, length-take-le 4 s h))) ∙ ap little_endian (take-take 4 4 s (omega arith))
 
+-- and eight are two times four
 eight_of : (s : List ℕ) → 8 ≤ length s → little_endian (take 8 s) ≡ little_endian (take 4 s) + little_endian (take 4 (drop 4 s)) * 0x1_0000_0000
 unfolding little_endian
 eight_of [] h = absurd (omega arith)
@@ -37,9 +41,11 @@ eight_of (a ∷ b ∷ []) h = absurd (omega arith)
 eight_of (a ∷ b ∷ c ∷ []) h = absurd (omega arith)
 eight_of (a ∷ b ∷ c ∷ d ∷ s) h = omega arith
 
-pub eight_at : (s : List ℕ) (i : ℕ) → i + 8 ≤ length s
-    → little_endian (take 8 (drop i s)) ≡ little_endian (take 4 (drop i s)) + little_endian (take 4 (drop (i + 4) s)) * 0x1_0000_0000
-eight_at s i h = eight_of (drop i s) (simp length-drop (omega arith)) ∙ simp drop-drop refl
+abbrev pub word_of : List ℕ → ℕ
+word_of s = from_le_bytes w32 (take 4 s) + from_le_bytes w32 (take 4 (drop 4 s)) * 0x1_0000_0000
+
+eight : (s : List ℕ) → 8 ≤ length s → word_of s ≡ little_endian (take 8 s)
+eight s h = omega (arith, four s (omega arith), four (drop 4 s) (omega (arith, length-drop 4 s)), eight_of s h)
 
 -- ---- the register over words
 
@@ -64,7 +70,7 @@ take_bytes (suc n) (b ∷ s) h zero = h 0
 take_bytes (suc n) (b ∷ s) h (suc i) = take_bytes n s (λ j. h (suc j)) i
 
 -- sixteen bytes as two numbers
-pub register_words : (c : ℕ) (s : List ℕ) → length s ≡ 16 → ((i : ℕ) → get_or s i 0 < 256)
+register_words : (c : ℕ) (s : List ℕ) → length s ≡ 16 → ((i : ℕ) → get_or s i 0 < 256)
     → register_after c s ≡ bit_xor (shift_bits 64 (little_endian (take 8 (drop 8 s)))) (shift_bits 128 (bit_xor c (little_endian (take 8 s))))
 register_words c s e h =
     let a = take 8 s in
@@ -79,6 +85,14 @@ register_words c s e h =
     ∙ linear 64 (shift_bits 64 x) (little_endian b)
     ∙ xor_comm (shift_bits 64 (shift_bits 64 x)) (shift_bits 64 (little_endian b))
     ∙ ap₂ bit_xor (ap (λ (l : List ℕ). shift_bits 64 (little_endian l)) (sym whole)) (sym (shift_add 64 64 x))
+
+-- the two as std has them
+pub register_sixteen : (c first second : ℕ) (s : List ℕ) → length s ≡ 16 → ((i : ℕ) → get_or s i 0 < 256) → first ≡ word_of s → second ≡ word_of (drop 8 s)
+    → register_after c s ≡ bit_xor (shift_bits 64 second) (shift_bits 128 (bit_xor c first))
+register_sixteen c first second s e h f g =
+    let a = f ∙ eight s (omega arith) in
+    let b = g ∙ eight (drop 8 s) (omega (arith, length-drop 8 s)) in
+    rw (a, b) (register_words c s e h)
 
 -- ---- a word, a byte at a time from the highest, with m more steps
 

@@ -14,7 +14,7 @@ use Rattle.wire.proofs.Bytes.{word_le32}
 use Rattle.crc32c_tables.specs.Steps.{shift_bits}
 use Rattle.crc32c_tables.proofs.Xor.{xor_assoc}
 use Rattle.crc32c.specs.Crc.{into_byte, register_after, crc_of}
-use Rattle.crc32c.specs.Inner.{little_endian}
+use Rattle.crc32c.proofs.Words.{little_endian}
 use Rattle.crc32c.proofs.Laws.{register_append}
 use Rattle.crc32c.proofs.Words.{register_word}
 use Rattle.crc32c_refresh.specs.Refresh.{advance, refreshed, Refreshes}

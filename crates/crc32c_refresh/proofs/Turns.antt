@@ -9,7 +9,7 @@ use native.Mathlib.Omega.{arith}
 use lib.Arith.{lt-one}
 use lib.Dec.{eqb}
 use lib.ListN.{length, take, drop, get_or, set, length-map}
-use lib.Seq.{take_all, take-suc, drop-cons, drop-length, set_at, length-take-le}
+use lib.Seq.{take_all, take-suc, drop-cons, drop-length, set_at, length-take-le, get_or-append-add, get_or-drop}
 use lib.Bits.{bit_xor, xor_zero_r}
 use Rattle.crc32c_tables.proofs.Xor.{xor_assoc}
 use Rattle.crc32c_refresh.specs.Operator.{apply, composed, squared, turned, squaring}
@@ -41,6 +41,15 @@ compose_turn m k r i x h e q =
     let more : map f (take (i + 1) k) ≡ first ++ (x ∷ []) = rw (add-one, take-suc k i 0 h, q) (map-append f (take i k) (y ∷ [])) in
     ap (λ (l : List ℕ). set l i x) (e ∙ ap (λ (l : List ℕ). first ++ l) split) ∙ set_at first y rest x i long
     ∙ sym (rw more (append_assoc first (x ∷ []) rest))
+
+-- the number that comes next is still that of k
+pub next_made : (m k : List ℕ) (i : ℕ) → i < length k → get_or (made m k i) i 0 ≡ get_or k i 0
+next_made m k i h =
+    let first = map (apply m) (take i k) in
+    let long : length first ≡ i = length-map (take i k) (apply m) ∙ length-take-le i k (omega arith) in
+    let at : i ≡ length first + 0 = omega arith in
+    let none : i + 0 ≡ i = omega arith in
+    ap (λ (n : ℕ). get_or (made m k i) n 0) at ∙ get_or-append-add first (drop i k) 0 0 ∙ get_or-drop i k 0 0 ∙ ap (λ (n : ℕ). get_or k n 0) none
 
 pub compose_end : (m k : List ℕ) (i : ℕ) → i ≡ length k → made m k i ≡ composed m k
 unfolding composed

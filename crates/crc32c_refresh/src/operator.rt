@@ -19,20 +19,21 @@ fn apply(m: [u32; 32], v: u32) -> u32
 {
     let mut r = 0;
     let mut rest = v;
-    for k in 0..32 {
-        r = r ^ where_odd(rest, m[k]);
-        rest = rest / 2;
+    for image in &m {
+        r ^= where_odd(rest, *image);
+        rest /= 2;
     }
     r
 }
 
-// The operator k, and m behind it.
+// The operator k, and m behind it; operators are handed on by value. As `k.map(..)`, with operators lent, a
+// refresh over 40,000 bytes took 21,935 instructions and not 18,614.
 fn compose(m: [u32; 32], k: [u32; 32]) -> [u32; 32]
     ensures { result ≡ composed m k }
 {
     let mut r = k;
-    for i in 0..32 {
-        r[i] = apply(m, k[i]);
+    for image in &mut r {
+        *image = apply(m, *image);
     }
     r
 }
@@ -88,13 +89,11 @@ fn block() -> [u32; 32]
 fn turned(m: [u32; 32], n: u64, change: u32) -> u32
     ensures { result ≡ turned m (eqb (n % 2) 1) change }
 {
-    if n % 2 == 1 {
-        return apply(m, change);
-    }
-    change
+    if n % 2 == 1 { apply(m, change) } else { change }
 }
 
-// A change, with m behind it n times: by the bits of n, from the lowest on, with the operator squared from bit to bit.
+// A change, with m behind it n times: by the bits of n, from the lowest on, with the operator squared from bit to bit. A `while`,
+// whose test is all that its invariant speaks of: a `for` to n's highest bit would have to know besides how many bits are left at each turn.
 fn squaring(m: [u32; 32], n: u64, change: u32) -> u32
     ensures { result ≡ squaring 64 m n change }
 {
@@ -105,7 +104,7 @@ fn squaring(m: [u32; 32], n: u64, change: u32) -> u32
         c = turned(power, left, c);
         let twice = square(power);
         power = twice;
-        left = left / 2;
+        left /= 2;
     }
     turned(power, left, c)
 }

@@ -7,7 +7,7 @@ ghost use Rattle.listing.specs.Inner.{StepWithin};
 
 use crate::{BUFFER_LENGTH, Step};
 use listing_lines::Summary;
-use opmsg::{Verdict, house};
+use opmsg::house;
 use opmsg_header::MAX_LENGTH;
 use wire::{under, word};
 
@@ -43,24 +43,24 @@ fn long(s: &[u8]) -> bool
 }
 
 // What a reading by the house edition says comes next.
+#[tactic(auto, unfolding(crate::specs::Next::step_of))]
 fn read_step(s: &[u8]) -> Step
     ensures { result ≡ step_of (read house s.now) }
 {
-    let reading = opmsg_read::read(house(), s);
-    let verdict = reading.verdict;
-    if let Verdict::Refused { number, place } = verdict {
-        return Step::Bad { number, place };
+    match opmsg_read::read(house(), s) {
+        Ok(view) => Step::Message(Summary {
+            length: view.length,
+            request_id: view.request_id,
+            response_to: view.response_to,
+            flags: view.flags,
+            sequences: opmsg_view::sequence_count(view),
+            elements: view.elements,
+        }),
+        Err(refusal) => Step::Bad {
+            number: u32::from(refusal.reason),
+            place: refusal.place,
+        },
     }
-    let view = reading.view;
-    let sequences = opmsg_view::sequence_count(view);
-    Step::Message(Summary {
-        length: view.length,
-        request_id: view.request_id,
-        response_to: view.response_to,
-        flags: view.flags,
-        sequences,
-        elements: view.elements,
-    })
 }
 
 // A longer message is passed over with nothing else checked; any other is read.

@@ -39,11 +39,10 @@ fn passing(run: Run, n: u32, left: u32) -> Run
     ensures { result ≡ passing n left run }
 {
     Run {
-        offset: run.offset,
-        messages: run.messages,
         length: n,
         left,
         done: false,
+        ..run
     }
 }
 
@@ -51,13 +50,7 @@ fn passing(run: Run, n: u32, left: u32) -> Run
 fn over(run: Run) -> Run
     ensures { result ≡ over run }
 {
-    Run {
-        offset: run.offset,
-        messages: run.messages,
-        length: run.length,
-        left: run.left,
-        done: true,
-    }
+    Run { done: true, ..run }
 }
 
 // What a turn makes of what comes next: a message that is passed over has its line when it has passed.

@@ -8,9 +8,16 @@ use native.Mathlib.Omega.{arith}
 use native.Mathlib.Numerals.{add-one}
 use lib.ListN.{length, take, drop}
 use lib.Seq.{take-append-le}
+use lib.Dec.{eqb}
+use borrow.Author.Tests.{ltb-true, ltb-false}
+use Rattle.std.proofs.Common.{Option, Some, None, Result, Ok, Err, cond, ltb}
+use Rattle.std.specs.List.{starts_with, position_or_len}
+use Rattle.std.specs.Option.{MatchOption}
+use Rattle.std.specs.Result.{IsErrAnd}
+use Rattle.listing_fields.proofs.Splitting.{until_newline_lem}
+use Rattle.listing_stored.specs.declared.WrongLine.{WrongLine}
 use Rattle.wire.specs.Outcome.{Outcome, ok, refused, ◌>>=◌}
 use Rattle.wire.proofs.Outcome.{go_on, halt}
-use Rattle.opmsg.specs.Names.{same_text}
 use Rattle.listing_lines.specs.Words.{ascii}
 use Rattle.listing_lines.specs.Fields.{newline}
 use Rattle.listing_lines.specs.Lines.{first_line}
@@ -21,6 +28,21 @@ use Rattle.listing_stored.specs.Stored.{Position, start, version_of, read_listin
 use Rattle.listing_stored.specs.Inner.{judged, run, answered}
 use Rattle.listing_stored.proofs.Judged.{run_empty, run_rest, run_line}
 use Rattle.listing_stored.proofs.Versions.{version_found, version_refused, begins_1, begins_2, begins_else, read_behind, read_none, first_length, long_enough}
+
+-- a refusal that is passed on
+pub refusal_is : {A : Type 0} {w : WrongLine} (e : WrongLine) (r : Result A WrongLine) → IsErrAnd r (λ d. d ≡ w) → w ≡ e → r ≡ Err e
+refusal_is e (Ok a) is same = absurd is
+refusal_is e (Err d) is same = cc
+
+-- the first newline, as the library finds it
+pub newline_found : (s : List ℕ) (r : Option ℕ) → r ≡ cond (ltb (position_or_len (λ x. eqb x newline) s) (length s)) (Some (position_or_len (λ x. eqb x newline) s)) None
+    → MatchOption r (length s ≤ until_newline s) (λ n. (n ≡ until_newline s) × (n < length s))
+newline_found s r e = rw (e, until_newline_lem s) (go (ltb (until_newline s) (length s)) refl)
+  where
+    go : (b : Bool) → ltb (until_newline s) (length s) ≡ b
+        → MatchOption (cond b (Some (until_newline s)) None) (length s ≤ until_newline s) (λ n. (n ≡ until_newline s) × (n < length s))
+    go true t = (refl, ltb-true _ _ t)
+    go false t = ltb-false _ _ t
 
 -- ---- the first line
 
@@ -34,7 +56,7 @@ first_on s later v e =
 
 -- twelve bytes tell the version
 version_front : (s later : List ℕ) → 12 ≤ length s → version_of versions (s ++ later) ≡ version_of versions s
-version_front s later h = go (same_text (take 12 s) first) refl (same_text (take 12 s) second) refl
+version_front s later h = go (starts_with eqb s first) refl (starts_with eqb s second) refl
   where
     first : List ℕ
     first = ascii "relay-log\t1\n"
@@ -45,7 +67,7 @@ version_front s later h = go (same_text (take 12 s) first) refl (same_text (take
     same : take 12 (s ++ later) ≡ take 12 s
     same = take-append-le 12 s later h
 
-    go : (a : Bool) → same_text (take 12 s) first ≡ a → (b : Bool) → same_text (take 12 s) second ≡ b → version_of versions (s ++ later) ≡ version_of versions s
+    go : (a : Bool) → starts_with eqb s first ≡ a → (b : Bool) → starts_with eqb s second ≡ b → version_of versions (s ++ later) ≡ version_of versions s
     go true d b e = begins_1 (s ++ later) (rw same d) ∙ sym (begins_1 s d)
     go false d true e = begins_2 (s ++ later) (rw same d) (rw same e) ∙ sym (begins_2 s d e)
     go false d false e = begins_else (s ++ later) (rw same d) (rw same e) ∙ sym (begins_else s d e)

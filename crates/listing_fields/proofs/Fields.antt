@@ -1,13 +1,14 @@
 -- Laws of the fields of a line: what stands before a newline, and fields that are parted again as they were joined.
 -- Assumes nothing.
 use Prim.Native.Nat.{ℕ, suc, ◌<◌}
-use mathlib.Core.Bool.{Bool, true, false}
+use mathlib.Core.Bool.{Bool, true, false, ◌&&◌}
 use mathlib.Core.Path.{◌≡◌, refl, sym, ap, ◌∙◌}
 use mathlib.Core.List.{List, [], ◌∷◌, ◌++◌, append_assoc}
 use native.Mathlib.Omega.{arith}
 use lib.ListN.{length, take, drop}
 use lib.Seq.{take-append_seam}
 use lib.Dec.{eqb}
+use lib.Pointwise.{pointwise}
 use borrow.Author.Tests.{eqb-true, eq-eqb, ne_eqb}
 use Rattle.opmsg.specs.Names.{same_text}
 use Rattle.listing_lines.specs.Fields.{tab, newline, line}
@@ -30,6 +31,18 @@ same_text_lem (x ∷ xs) (y ∷ ys) h = go (eqb x y) refl (same_text_lem xs ys) 
     go : (b : Bool) → eqb x y ≡ b → (same_text xs ys ≡ true → xs ≡ ys) → ◌≡◌ {A = Bool} (elim b [ true ↦ same_text xs ys | false ↦ false ]) true → x ∷ xs ≡ y ∷ ys
     go true e ih h = let a = eqb-true x y e in let b = ih h in cc
     go false e ih h = let z : ◌≡◌ {A = ℕ} 0 1 = cc in absurd (omega arith)
+
+-- it is the library's comparison
+pub same_text_eq : (xs ys : List ℕ) → pointwise eqb xs ys ≡ same_text xs ys
+unfolding same_text
+same_text_eq [] [] = refl
+same_text_eq [] (y ∷ ys) = refl
+same_text_eq (x ∷ xs) [] = refl
+same_text_eq (x ∷ xs) (y ∷ ys) = go (eqb x y) (same_text_eq xs ys)
+  where
+    go : (b : Bool) → pointwise eqb xs ys ≡ same_text xs ys → (b && pointwise eqb xs ys) ≡ elim b [ true ↦ same_text xs ys | false ↦ false ]
+    go true e = e
+    go false e = refl
 
 -- ---- bytes before a newline
 

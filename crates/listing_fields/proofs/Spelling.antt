@@ -10,13 +10,14 @@ use lib.ListN.{length, get_or, drop, drop_of_length-le}
 use lib.Seq.{drop-cons}
 use lib.Dec.{leb, ltb, eqb}
 use borrow.Author.Tests.{lt-leb, le-leb, lt-ltb, le-ltb, ltb-true, ltb-false, leb-true, leb-false, eqb-true}
+use Rattle.std.specs.Prelude.{Option, Some, None}
+use Rattle.std.specs.Option.{is_some}
 use Rattle.wire.specs.Outcome.{Outcome, ok, refused, refuse, ◌>>=◌}
 use Rattle.wire.proofs.Outcome.{pass, stop, go_on, halt}
 use Rattle.opmsg.specs.Names.{same_text}
 use Rattle.listing_lines.specs.Decimal.{digits, decimal, signed_decimal}
 use Rattle.listing_fields.specs.Numbers.{spelled, spelled_signed, is_signed32, number, between, exactly, signed_number}
-use Rattle.listing_fields.specs.Inner.{numbered, is_right}
-use Rattle.listing_fields.specs.declared.Number.{Number}
+use Rattle.listing_fields.specs.Inner.{numbered}
 
 pub spelled_next : (n : ℕ) (f : List ℕ) (i : ℕ) → i < length f → spelled n (drop i f) ≡ spelled (10 * n + (get_or f i 0 - 48)) (drop (i + 1) f)
 unfolding spelled
@@ -73,10 +74,10 @@ module _ (k least most : ℕ) (f : List ℕ) where
   between_is n e l h = go_on _ e ∙ pass 38 k _ (le-ltb n least l) ∙ pass 38 k _ (le-ltb most n h)
 
 -- whether there is one
-pub tells : {o : Outcome ℕ} (k : ℕ) (r : Number) → o ≡ numbered k r → (o >>= λ _. ok tt) ≡ refuse 38 k (not (is_right r))
+pub tells : {o : Outcome ℕ} (k : ℕ) (r : Option ℕ) (b : Bool) → o ≡ numbered k r → b ≡ is_some r → (o >>= λ _. ok tt) ≡ refuse 38 k (not b)
 unfolding ◌>>=◌ refuse
-tells k (Number.Is n) e = rw e
-tells k Number.Wrong e = rw e
+tells k (Some n) b e d = rw (e, d)
+tells k None b e d = rw (e, d)
 
 -- no field tells a number of more bits
 pub exactly_far : (k n : ℕ) (f : List ℕ) → 2 ^ 64 ≤ n → exactly k n f ≡ refused 38 k

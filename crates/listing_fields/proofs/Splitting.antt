@@ -1,138 +1,86 @@
--- Laws of the search for a byte, and of the fields between tabs.
+-- The words of the definitions are the library's: bytes before a newline, and fields between tabs.
 -- Assumes nothing.
-use Prim.Native.Nat.{ℕ, zero, suc, ◌+◌, ◌-◌, ◌≤◌, ◌<◌}
-use mathlib.Core.Bool.{Bool, true, false}
-use mathlib.Core.Path.{◌≡◌, refl, ap, ◌∙◌}
-use mathlib.Core.List.{List, [], ◌∷◌}
-use native.Mathlib.Numerals.{add-one}
-use native.Mathlib.Omega.{arith}
-use lib.ListN.{length, get_or, take, drop, length-drop, drop_of_length-le}
-use lib.Seq.{drop-cons, drop-drop, take_all}
-use lib.Dec.{eqb, leb}
-use borrow.Author.Tests.{leb-true, leb-false, eq-eqb, ne_eqb}
+use Rattle.std.proofs.Common.{ℕ, suc, ◌+◌, ◌≤◌, min, ◌≡◌, ◌≢◌, ◌∙◌, ap, length, take, drop, ltb, ◌++◌, append_assoc, length-append, true, false, Bool, List, [], ◌∷◌, refl, sym, eqb, cond, arith}
+use Rattle.std.specs.List.{IsFirstMatchOrLen, position_or_len, slice_split, onto_first}
+use Rattle.std.proofs.lemmas.List.Recursion.{is_position_or_len}
+use Rattle.std.proofs.lemmas.List.Sums.{position_or_len_is}
+use Rattle.std.proofs.lemmas.Grind.{common_steps}
+use Rattle.std.proofs.lemmas.List.{length-take-le}
+use Rattle.std.proofs.Math.Seq.{take-append_seam, take-append-add}
+use borrow.Author.Tests.{ltb-true, ltb-false}
+use Rattle.listing_fields.proofs.Fields.{OneLine, until_line, until_split}
 use Rattle.listing_lines.specs.Fields.{tab, newline}
-use Rattle.listing_fields.specs.Numbers.{until_newline, ahead, fields_of, field}
-use Rattle.listing_fields.specs.Inner.{until_byte}
-use Rattle.listing_fields.proofs.Fields.{fields_some}
+use Rattle.listing_fields.specs.Numbers.{until_newline, ahead, fields_of}
 
--- ---- the search for a byte
+newline_step : (x : ℕ) (xs : List ℕ) → until_newline (x ∷ xs) ≡ cond (eqb x newline) 0 (1 + until_newline xs)
+unfolding until_newline
+newline_step x xs = go (eqb x newline) refl
+  where
+    go : (b : Bool) → eqb x newline ≡ b → until_newline (x ∷ xs) ≡ cond b 0 (1 + until_newline xs)
+    go true e = rw (until_newline, e)
+    go false e = rw (until_newline, e) (omega arith)
 
-module _ (b : ℕ) where
-  pub byte_stop : (x : ℕ) (xs : List ℕ) → eqb x b ≡ true → until_byte b (x ∷ xs) ≡ 0
-  unfolding until_byte
-  byte_stop x xs e = rw (until_byte, e)
+pub until_newline_lem : (xs : List ℕ) → position_or_len (λ x. eqb x newline) xs ≡ until_newline xs
+until_newline_lem xs = sym (is_position_or_len until_newline (λ x. eqb x newline) (unfold until_newline in refl) newline_step xs)
 
-  pub byte_go : (x : ℕ) (xs : List ℕ) → eqb x b ≡ false → until_byte b (x ∷ xs) ≡ suc (until_byte b xs)
-  unfolding until_byte
-  byte_go x xs e = rw (until_byte, e)
+-- the place of the first newline
+pub first_newline : (xs : List ℕ) (i : ℕ) → IsFirstMatchOrLen (λ x. eqb x newline) xs i → until_newline xs ≡ i
+first_newline xs i h = go (ltb (length xs) i) refl
+  where
+    go : (b : Bool) → ltb (length xs) i ≡ b → until_newline xs ≡ i
+    go true e = let l = ltb-true _ _ e in let f = h.0 (length xs) newline (omega arith) l in absurd (grind (arith, common_steps))
+    go false e = sym (until_newline_lem xs) ∙ position_or_len_is (λ x. eqb x newline) xs i 0 (ltb-false _ _ e) (λ k l. h.0 k 0 (omega arith) l) (λ l. h.1 l 0)
 
-  pub at_byte : (xs : List ℕ) (i : ℕ) → i < length xs → eqb (get_or xs i 0) b ≡ true → until_byte b (drop i xs) ≡ 0
-  at_byte xs i h e = rw (drop-cons xs i 0 h) (byte_stop (get_or xs i 0) (drop (suc i) xs) e)
+pub until_front : (t ys : List ℕ) → until_newline (t ++ newline ∷ ys) ≤ length t
+unfolding until_newline
+until_front [] ys = omega arith
+until_front (x ∷ t) ys = go (eqb x newline) (until_front t ys)
+  where
+    go : (b : Bool) → until_newline (t ++ newline ∷ ys) ≤ length t → ◌≤◌ (elim b [ true ↦ 0 | false ↦ suc (until_newline (t ++ newline ∷ ys)) ]) (suc (length t))
+    go true h = omega arith
+    go false h = omega arith
 
-  pub past_byte : (xs : List ℕ) (i : ℕ) → i < length xs → eqb (get_or xs i 0) b ≡ false → until_byte b (drop i xs) ≡ suc (until_byte b (drop (i + 1) xs))
-  past_byte xs i h e = rw (drop-cons xs i 0 h, add-one) (byte_go (get_or xs i 0) (drop (suc i) xs) e)
+-- w is what stands up to the first newline of xs, as the library cuts it, and ys what is behind it
+module _ (xs w ys : List ℕ) (i : ℕ) (whole : xs ≡ w ++ ys) (cut : length w ≡ min (i + 1) (length xs)) (first : IsFirstMatchOrLen (λ x. eqb x newline) xs i) where
+  size : length w ≡ min (until_newline xs + 1) (length xs)
+  size = rw (first_newline xs i first) cut
 
-  pub past_all : (xs : List ℕ) (i : ℕ) → length xs ≤ i → until_byte b (drop i xs) ≡ 0
-  unfolding until_byte
-  past_all xs i h = rw (drop_of_length-le xs h)
+  -- it ends with a newline
+  pub line_of : (t : List ℕ) → w ≡ t ++ newline ∷ [] → (xs ≡ t ++ newline ∷ ys) × OneLine t
+  line_of t e =
+      let s : xs ≡ t ++ newline ∷ ys = whole ∙ rw e (append_assoc t (newline ∷ []) ys) in
+      let u : until_newline xs ≤ length t = rw s (until_front t ys) in
+      let n : until_newline xs ≡ length t = omega (arith, size, ap length e, length-append t (newline ∷ []), ap length s, length-append t (newline ∷ ys)) in
+      let l : t ≡ take (until_newline xs) xs = rw (n, s) (sym (take-append_seam t (newline ∷ ys))) in
+      (s, rw (← l) at (until_line xs))
 
-  pub until_le : (xs : List ℕ) → until_byte b xs ≤ length xs
-  unfolding until_byte
-  until_le [] = omega arith
-  until_le (x ∷ xs) = go (eqb x b) (until_le xs)
+  -- it does not: there is none
+  pub no_line : ((t : List ℕ) → w ≢ t ++ newline ∷ []) → length xs ≤ until_newline xs
+  no_line none = go (ltb (until_newline xs) (length xs)) refl
     where
-      go : (t : Bool) → until_byte b xs ≤ length xs → ◌≤◌ (elim t [ true ↦ zero | false ↦ suc (until_byte b xs) ]) (suc (length xs))
-      go true h = omega arith
-      go false h = omega arith
+      go : (b : Bool) → ltb (until_newline xs) (length xs) ≡ b → length xs ≤ until_newline xs
+      go false e = ltb-false _ _ e
+      go true e =
+          let u = until_newline xs in
+          let f = take u xs in
+          let less = ltb-true _ _ e in
+          let split = until_split xs less in
+          let n : length w ≡ length f + 1 = omega (arith, size, length-take-le u xs (omega arith)) in
+          absurd (none f (sym (take-append_seam w ys)
+          ∙ ap (take (length w)) (sym whole ∙ split)
+          ∙ ap (λ m. take m (f ++ newline ∷ drop (suc u) xs)) n
+          ∙ take-append-add f (newline ∷ drop (suc u) xs) 1))
 
-pub until_newline_lem : (xs : List ℕ) → until_byte newline xs ≡ until_newline xs
-unfolding until_byte until_newline
-until_newline_lem [] = refl
-until_newline_lem (x ∷ xs) = go (eqb x newline) (until_newline_lem xs)
-  where
-    go : (t : Bool) → until_byte newline xs ≡ until_newline xs
-        → ◌≡◌ {A = ℕ} (elim t [ true ↦ zero | false ↦ suc (until_byte newline xs) ]) (elim t [ true ↦ zero | false ↦ suc (until_newline xs) ])
-    go true e = refl
-    go false e = ap suc e
-
--- ---- the first field, and those behind it
-
-fields_stop : (x : ℕ) (xs : List ℕ) → eqb x tab ≡ true → fields_of (x ∷ xs) ≡ [] ∷ fields_of xs
-unfolding fields_of
-fields_stop x xs e = rw (fields_of, e)
-
-fields_go : (x : ℕ) (xs : List ℕ) → eqb x tab ≡ false → fields_of (x ∷ xs) ≡ ahead x (fields_of xs)
-unfolding fields_of
-fields_go x xs e = rw (fields_of, e)
-
-pub last_field : (xs : List ℕ) → length xs ≤ until_byte tab xs → fields_of xs ≡ xs ∷ []
-last_field [] h = unfold fields_of in refl
-last_field (x ∷ xs) h = go (eqb x tab) refl (last_field xs)
-  where
-    go : (t : Bool) → eqb x tab ≡ t → (length xs ≤ until_byte tab xs → fields_of xs ≡ xs ∷ []) → fields_of (x ∷ xs) ≡ (x ∷ xs) ∷ []
-    go true e ih = absurd (omega (arith, byte_stop tab x xs e))
-    go false e ih = fields_go x xs e ∙ rw (ih (omega (arith, byte_go tab x xs e))) (unfold ahead in refl)
-
-pub next_field : (xs : List ℕ) → until_byte tab xs < length xs → fields_of xs ≡ take (until_byte tab xs) xs ∷ fields_of (drop (suc (until_byte tab xs)) xs)
-next_field [] h = absurd (omega arith)
-next_field (x ∷ xs) h = go (eqb x tab) refl (next_field xs)
-  where
-    go : (t : Bool) → eqb x tab ≡ t → (until_byte tab xs < length xs → fields_of xs ≡ take (until_byte tab xs) xs ∷ fields_of (drop (suc (until_byte tab xs)) xs))
-        → fields_of (x ∷ xs) ≡ take (until_byte tab (x ∷ xs)) (x ∷ xs) ∷ fields_of (drop (suc (until_byte tab (x ∷ xs))) (x ∷ xs))
-    go true e ih = rw (byte_stop tab x xs e) (fields_stop x xs e)
-    go false e ih = rw (byte_go tab x xs e) (fields_go x xs e ∙ rw (ih (omega (arith, byte_go tab x xs e))) (unfold ahead in refl))
-
--- the first field ends before the first tab
-pub first_field : (xs : List ℕ) → field 0 (fields_of xs) ≡ take (until_byte tab xs) xs
-first_field xs = go (leb (length xs) (until_byte tab xs)) refl
-  where
-    go : (t : Bool) → leb (length xs) (until_byte tab xs) ≡ t → field 0 (fields_of xs) ≡ take (until_byte tab xs) xs
-    go true e = let h = leb-true _ _ e in rw (last_field xs h, take_all (until_byte tab xs) xs h)
-    go false e = rw (next_field xs (leb-false _ _ e))
-
--- a field that is not the first
-behind : (fs : List (List ℕ)) (f : List ℕ) (left : ℕ) → 0 < left → field left (f ∷ fs) ≡ field (left - 1) fs
-behind fs f zero h = absurd (omega arith)
-behind fs f (suc left) h = let e : suc left - 1 ≡ left = omega arith in rw e
-
--- field `left` from place `at` of a line on
-module _ (l : List ℕ) (at left : ℕ) (some : 0 < left) where
-  pub field_past : at + until_byte tab (drop at l) < length l
-      → field left (fields_of (drop at l)) ≡ field (left - 1) (fields_of (drop (at + until_byte tab (drop at l) + 1) l))
-  field_past h =
-      let u = until_byte tab (drop at l) in
-      let e : at + suc u ≡ at + u + 1 = omega arith in
-      ap (field left) (next_field (drop at l) (omega (arith, length-drop at l)))
-      ∙ behind (fields_of (drop (suc u) (drop at l))) (take u (drop at l)) left some
-      ∙ rw (drop-drop (suc u) at l, e)
-
-  pub field_none : length l - at ≤ until_byte tab (drop at l) → field left (fields_of (drop at l)) ≡ []
-  field_none h =
-      ap (field left) (last_field (drop at l) (omega (arith, length-drop at l)))
-      ∙ behind [] (drop at l) left some
-
-pub field_here : (l : List ℕ) (at left u : ℕ) → left ≤ 0 → u ≡ until_byte tab (drop at l) → field left (fields_of (drop at l)) ≡ take (at + u - at) (drop at l)
-field_here l at left u h e =
-    let z : left ≡ 0 = omega arith in
-    let n : at + u - at ≡ until_byte tab (drop at l) = omega arith in
-    rw (z, n) (first_field (drop at l))
-
--- ---- the number of fields
-
-ahead_length : (x : ℕ) (fs : List (List ℕ)) → 0 < length fs → length (ahead x fs) ≡ length fs
+ahead_onto : (x : ℕ) (fs : List (List ℕ)) → ahead x fs ≡ onto_first x fs
 unfolding ahead
-ahead_length x [] h = absurd (omega arith)
-ahead_length x (f ∷ fs) h = refl
+ahead_onto x [] = refl
+ahead_onto x (f ∷ fs) = refl
 
-module _ (l : List ℕ) (i : ℕ) (h : i < length l) where
-  pub count_tab : get_or l i 0 ≡ tab → length (fields_of (drop i l)) ≡ 1 + length (fields_of (drop (i + 1) l))
-  count_tab e = rw (drop-cons l i 0 h, add-one, fields_stop (get_or l i 0) (drop (suc i) l) (eq-eqb _ _ e)) (omega arith)
-
-  pub count_other : (get_or l i 0 ≡ tab → ⊥) → length (fields_of (drop i l)) ≡ length (fields_of (drop (i + 1) l))
-  count_other e =
-      rw (drop-cons l i 0 h, add-one, fields_go (get_or l i 0) (drop (suc i) l) (ne_eqb _ _ e))
-      (ahead_length (get_or l i 0) (fields_of (drop (suc i) l)) (fields_some (drop (suc i) l)))
-
-pub count_end : (l : List ℕ) (i : ℕ) → length l ≤ i → length (fields_of (drop i l)) ≡ 1
+pub fields_split : (xs : List ℕ) → fields_of xs ≡ slice_split (λ x. eqb x tab) xs
 unfolding fields_of
-count_end l i h = rw (drop_of_length-le l h)
+fields_split [] = refl
+fields_split (x ∷ xs) = go (eqb x tab) refl (fields_split xs)
+  where
+    go : (b : Bool) → eqb x tab ≡ b → fields_of xs ≡ slice_split (λ x. eqb x tab) xs → fields_of (x ∷ xs) ≡ cond b ([] ∷ slice_split (λ x. eqb x tab) xs) (onto_first x (slice_split (λ x. eqb x tab) xs))
+    go true e ih = rw (fields_of, e, ih)
+    go false e ih = rw (fields_of, e, ih) (ahead_onto x _)

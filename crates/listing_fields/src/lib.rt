@@ -3,10 +3,3 @@
 
 pub mod digits;
 pub mod split;
-
-// What a field of a line tells.
-#[derive(Drop)]
-pub enum Number {
-    Is(u64),
-    Wrong,
-}

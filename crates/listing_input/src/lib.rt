@@ -1,7 +1,9 @@
 // Input that is read on behind the bytes that a buffer holds.
 #![tactic(auto)]
 
-ghost use Rattle.std.specs.Prelude.{◌≡◌, ◌-◌, ◌<◌, ◌≤◌, length, take, drop};
+pub mod arguments;
+
+ghost use Rattle.std.specs.Prelude.{◌≡◌, ◌==◌, ◌-◌, ◌<◌, ◌≤◌, length, take, drop};
 
 use listing_buffer::to_front;
 use std::fmt::InlineText;
@@ -9,6 +11,32 @@ use std::io::{Error, Read};
 
 // The descriptor of standard error.
 const STDERR: i32 = 2;
+
+// The bytes at hand: those of a buffer from `at` to `end`, behind which more may come unless the input has ended.
+#[derive(Clone, Copy)]
+pub struct Window {
+    pub at: usize,
+    pub end: usize,
+    pub ended: bool,
+}
+
+impl Window {
+    // What is at hand once the input was read on, as `fill` does: no byte read means the end.
+    pub fn filled<R: Read>(self, input: &mut R, buf: &mut [u8], name: &[u8]) -> Window
+        requires { (self.at ≤ self.end) × (self.end ≤ length buf.old) × (self.end - self.at < length buf.old) }
+        ensures front { take (self.end - self.at) buf.new ≡ take (self.end - self.at) (drop self.at buf.old) }
+        ensures inside { (self.end - self.at ≤ result.end) × (result.end ≤ length buf.old) }
+        ensures told { result ≡ record { at = 0; end = result.end; ended = result.end == self.end - self.at } }
+    {
+        let kept = self.end - self.at;
+        let end = fill(input, buf, self.at, self.end, name);
+        Window {
+            at: 0,
+            end,
+            ended: end == kept,
+        }
+    }
+}
 
 // Moves the bytes at hand to the front and reads on behind them, where there is room, so that no byte read means the end; answers where
 // what was read ends. A read that fails counts as the end of the input, and standard error says so behind the name.

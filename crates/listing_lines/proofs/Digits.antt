@@ -3,16 +3,15 @@
 use Prim.Native.Nat.{ℕ, zero, suc, ◌-◌, ◌/◌, ◌%◌, ◌^◌, ◌≤◌, ◌<◌}
 use mathlib.Core.Bool.{Bool, true, false}
 use mathlib.Core.Path.{◌≡◌, refl}
+use Rattle.std.proofs.Common.{if◌then◌else◌}
 use mathlib.Core.List.{◌∷◌}
 use native.Mathlib.Omega.{arith, pow_step}
 use native.Mathlib.Nat.{mod-eq_of_lt, one-le-pow, pow-le-pow_right}
-use lib.IntN.{ℤ, pos, negsuc}
+use lib.IntN.{ℤ, pos, negsuc, nat_abs}
+use lib.Signed.{lt_z}
 use lib.Dec.{ltb}
-use mir.Syntax.{w32}
-use mir.Val.{SFits}
 use borrow.Author.Tests.{lt-ltb, le-ltb, ltb-true, ltb-false}
 use Rattle.io.specs.Digits.{IsDigitCount, last_digits as spelled}
-use Rattle.wire.specs.Bytes.{bits32}
 use Rattle.listing_lines.specs.Decimal.{digits, decimal, signed_decimal}
 
 below_pow : (j : ℕ) → j < 10 ^ j
@@ -55,13 +54,8 @@ few_digits k n f h = go (ltb 20 k) refl
         absurd (omega (arith, f.2 (omega arith), pow-le-pow_right {n = 10} (omega arith) {i = 20} {j = k - 1} (omega arith)))
     go false e = ltb-false 20 k e
 
--- a signed 32-bit number, by its bits
-pub not_negative : (x : ℤ) → SFits w32 x → bits32 x < 2 ^ 31 → decimal (bits32 x) ≡ signed_decimal x
-unfolding bits32 signed_decimal
-not_negative (pos n) f h = refl
-not_negative (negsuc n) f h = absurd (omega (arith, f.sfits))
-
-pub negative : (x : ℤ) → SFits w32 x → 2 ^ 31 ≤ bits32 x → 45 ∷ decimal (2 ^ 32 - bits32 x) ≡ signed_decimal x
-unfolding bits32 signed_decimal
-negative (pos n) f h = absurd (omega (arith, f.sfits))
-negative (negsuc n) f h = let e : 2 ^ 32 - (2 ^ 32 - 1 - n) ≡ suc n = omega (arith, f.sfits) in rw e
+-- a signed number, by its sign and its size
+pub signed_parts : (x : ℤ) → signed_decimal x ≡ (if lt_z x (pos 0) then 45 ∷ decimal (nat_abs x) else decimal (nat_abs x))
+unfolding signed_decimal
+signed_parts (pos n) = rw (le-ltb n 0 (omega arith)) refl
+signed_parts (negsuc n) = refl

@@ -13,13 +13,12 @@ pub three_fields : (a b c : List ℕ) → a ++ tab ∷ [] ++ (b ++ tab ∷ []) +
 unfolding line
 three_fields a b c = simp append_assoc
 
-pub four_fields : (a b c d : List ℕ) → a ++ tab ∷ [] ++ (b ++ tab ∷ (c ++ tab ∷ (d ++ newline ∷ []))) ≡ line (a ∷ b ∷ c ∷ d ∷ [])
+pub four_fields : (a b c d : List ℕ) → a ++ tab ∷ [] ++ (b ++ tab ∷ []) ++ (c ++ tab ∷ []) ++ (d ++ newline ∷ []) ≡ line (a ∷ b ∷ c ∷ d ∷ [])
 unfolding line
 four_fields a b c d = simp append_assoc
 
--- the fourth and the fifth are written in one call, as are the last three
 pub eight_fields : (a b c d e f g h : List ℕ)
-    → a ++ tab ∷ [] ++ (b ++ tab ∷ []) ++ (c ++ tab ∷ []) ++ (d ++ tab ∷ (e ++ tab ∷ [])) ++ (f ++ tab ∷ (g ++ tab ∷ (h ++ newline ∷ [])))
+    → a ++ tab ∷ [] ++ (b ++ tab ∷ []) ++ (c ++ tab ∷ []) ++ (d ++ tab ∷ []) ++ (e ++ tab ∷ []) ++ (f ++ tab ∷ []) ++ (g ++ tab ∷ []) ++ (h ++ newline ∷ [])
     ≡ line (a ∷ b ∷ c ∷ d ∷ e ∷ f ∷ g ∷ h ∷ [])
 unfolding line
 eight_fields a b c d e f g h = simp append_assoc

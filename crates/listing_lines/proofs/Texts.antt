@@ -53,3 +53,7 @@ field_behind {text} {old} {new} {mid} {xs} {ds} {at} {k} b w put_is ds-is k_is h
 pub ended : {text other old new : List ℕ} {r : ℕ} → text ≡ other → TextWritten text old new r → TextWritten other old new r × ((r ≤ length new) × (r ≡ length (take r new)))
 ended {text} {other} {old} {new} {r} e w =
     (rw e at w, (omega (arith, ap length w.is, length-append text (drop r old), w.size), w.size ∙ ap length (sym (front w))))
+
+-- the lent bytes, once they are no longer lent, are those that were written last
+pub given_back : {text old new last : List ℕ} {r : ℕ} → TextWritten text old last r → new ≡ last → TextWritten text old new r
+given_back w e = rw e w

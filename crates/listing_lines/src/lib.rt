@@ -7,13 +7,13 @@ ghost use Rattle.io.specs.Counts.{IsPrefixLen};
 ghost use Rattle.listing_lines.specs.Lines.{version, first_line, message_line, big_line, bad_line, end_line};
 ghost use Rattle.listing_lines.specs.Written.{TextWritten};
 
-use crate::fields::{NEWLINE, TAB, number, three_numbers, two_signed};
+use crate::fields::{Line, NEWLINE, TAB};
 
 // The version of the listings that are written.
 pub const VERSION: u64 = 2;
 
 // What a line tells of a message.
-#[derive(Drop)]
+#[derive(Clone, Copy, Debug, PartialEq, Eq)]
 pub struct Summary {
     pub length: u32,
     pub request_id: i32,
@@ -29,7 +29,9 @@ pub fn first_line(out: &mut [u8; 256]) -> usize
     ensures prefix_len { IsPrefixLen result out.new }
 {
     wire_put::put(out, 0, b"relay-log\t");
-    number(out, 10, VERSION, NEWLINE)
+    let mut line = Line { out, len: 10 };
+    line.number(VERSION, NEWLINE);
+    line.len
 }
 
 // Writes the line of a message and answers its length.
@@ -38,17 +40,15 @@ pub fn message_line(out: &mut [u8; 256], offset: u64, m: Summary) -> usize
     ensures prefix_len { IsPrefixLen result out.new }
 {
     wire_put::put(out, 0, b"msg\t");
-    let at = number(out, 4, offset, TAB);
-    let at = number(out, at, m.length as u64, TAB);
-    let at = two_signed(out, at, m.request_id, m.response_to, TAB);
-    three_numbers(
-        out,
-        at,
-        m.flags as u64,
-        m.sequences as u64,
-        m.elements as u64,
-        NEWLINE,
-    )
+    let mut line = Line { out, len: 4 };
+    line.number(offset, TAB);
+    line.number(m.length as u64, TAB);
+    line.signed(m.request_id, TAB);
+    line.signed(m.response_to, TAB);
+    line.number(m.flags as u64, TAB);
+    line.number(m.sequences as u64, TAB);
+    line.number(m.elements as u64, NEWLINE);
+    line.len
 }
 
 // Writes the line of a message that is passed over and answers its length.
@@ -57,8 +57,10 @@ pub fn big_line(out: &mut [u8; 256], offset: u64, length: u32) -> usize
     ensures prefix_len { IsPrefixLen result out.new }
 {
     wire_put::put(out, 0, b"big\t");
-    let at = number(out, 4, offset, TAB);
-    number(out, at, length as u64, NEWLINE)
+    let mut line = Line { out, len: 4 };
+    line.number(offset, TAB);
+    line.number(length as u64, NEWLINE);
+    line.len
 }
 
 // Writes the line of a refusal and answers its length.
@@ -67,7 +69,11 @@ pub fn bad_line(out: &mut [u8; 256], offset: u64, refusal: u32, place: usize) ->
     ensures prefix_len { IsPrefixLen result out.new }
 {
     wire_put::put(out, 0, b"bad\t");
-    three_numbers(out, 4, offset, refusal as u64, place as u64, NEWLINE)
+    let mut line = Line { out, len: 4 };
+    line.number(offset, TAB);
+    line.number(refusal as u64, TAB);
+    line.number(place as u64, NEWLINE);
+    line.len
 }
 
 // Writes the last line and answers its length.
@@ -76,5 +82,7 @@ pub fn end_line(out: &mut [u8; 256], messages: u64) -> usize
     ensures prefix_len { IsPrefixLen result out.new }
 {
     wire_put::put(out, 0, b"end\t");
-    number(out, 4, messages, NEWLINE)
+    let mut line = Line { out, len: 4 };
+    line.number(messages, NEWLINE);
+    line.len
 }

@@ -1,12 +1,17 @@
 -- Laws of the first line, and of reading what stands behind it.
 -- Assumes nothing.
 use Prim.Native.Nat.{ℕ, ◌≤◌}
-use mathlib.Core.Bool.{Bool, true, false, not}
+use mathlib.Core.Bool.{Bool, true, false, not, ◌&&◌}
 use mathlib.Core.Path.{◌≡◌, refl, sym, ap, ◌∙◌}
 use mathlib.Core.List.{List, [], ◌∷◌, ◌++◌, Memᴰ}
 use native.Mathlib.Omega.{arith}
 use lib.ListN.{length, take, drop, length-append, length-drop, take-append-drop}
 use lib.Seq.{drop-append_seam}
+use lib.Dec.{eqb}
+use lib.Pointwise.{pointwise}
+use borrow.Author.Tests.{eqb-true}
+use Rattle.std.specs.List.{starts_with}
+use Rattle.std.proofs.lemmas.Bool.Decides.{nat_tests}
 use Rattle.wire.specs.Outcome.{Outcome, ok, refused, ◌>>=◌}
 use Rattle.wire.proofs.Outcome.{not_ok, ok_same, passed, pass, go_on, halt}
 use Rattle.opmsg.specs.Names.{same_text}
@@ -85,19 +90,41 @@ second_is r = refl
 pub version_of_lem : (v : Version) (r : List ℕ) → Memᴰ v versions → version_of versions (first_line v.number ++ r) ≡ ok v
 version_of_lem v r m = either v m (λ e. rw e (first_is r)) (λ e. rw e (second_is r))
 
--- the version by the bytes of its line
+-- the version by the bytes of its line, which the library compares from the other side
+same_sides : (xs ys : List ℕ) → pointwise eqb ys xs ≡ same_text xs ys
+unfolding same_text
+same_sides [] [] = refl
+same_sides [] (y ∷ ys) = refl
+same_sides (x ∷ xs) [] = refl
+same_sides (x ∷ xs) (y ∷ ys) = go (eqb x y) (eqb y x) refl refl (same_sides xs ys)
+  where
+    go : (a b : Bool) → eqb x y ≡ a → eqb y x ≡ b → pointwise eqb ys xs ≡ same_text xs ys → (b && pointwise eqb ys xs) ≡ elim a [ true ↦ same_text xs ys | false ↦ false ]
+    go true true e d ih = ih
+    go false false e d ih = refl
+    go true false e d ih = absurd (let h = eqb-true x y e in grind (arith, nat_tests))
+    go false true e d ih = absurd (let h = eqb-true y x d in grind (arith, nat_tests))
+
 module _ (s : List ℕ) where
-  pub begins_1 : same_text (take 12 s) (ascii "relay-log\t1\n") ≡ true → version_of versions s ≡ ok one
-  unfolding version_of versions first_line line decimal digits
-  begins_1 e = rw (version_of, e)
+  abbrev first : List ℕ
+  first = ascii "relay-log\t1\n"
 
-  pub begins_2 : same_text (take 12 s) (ascii "relay-log\t1\n") ≡ false → same_text (take 12 s) (ascii "relay-log\t2\n") ≡ true → version_of versions s ≡ ok two
-  unfolding version_of versions first_line line decimal digits
-  begins_2 d e = rw (version_of, d, version_of, e)
+  abbrev second : List ℕ
+  second = ascii "relay-log\t2\n"
 
-  pub begins_else : same_text (take 12 s) (ascii "relay-log\t1\n") ≡ false → same_text (take 12 s) (ascii "relay-log\t2\n") ≡ false → version_of versions s ≡ refused 38 1
+  begins : {b : Bool} (line : List ℕ) → starts_with eqb s line ≡ b → same_text (take (length line) s) line ≡ b
+  begins line e = sym (same_sides (take (length line) s) line) ∙ e
+
+  pub begins_1 : starts_with eqb s first ≡ true → version_of versions s ≡ ok one
   unfolding version_of versions first_line line decimal digits
-  begins_else d e = rw (version_of, d, version_of, e)
+  begins_1 e = let d = begins first e in rw (version_of, d)
+
+  pub begins_2 : starts_with eqb s first ≡ false → starts_with eqb s second ≡ true → version_of versions s ≡ ok two
+  unfolding version_of versions first_line line decimal digits
+  begins_2 n e = let m = begins first n in let d = begins second e in rw (version_of, m, version_of, d)
+
+  pub begins_else : starts_with eqb s first ≡ false → starts_with eqb s second ≡ false → version_of versions s ≡ refused 38 1
+  unfolding version_of versions first_line line decimal digits
+  begins_else n e = let m = begins first n in let d = begins second e in rw (version_of, m, version_of, d)
 
 -- ---- what stands behind it
 

@@ -1,37 +1,26 @@
 -- What the functions inside the reader tell, and the reading of a listing line by line.
 -- Assumes nothing: these are definitions.
-use Rattle.std.specs.Prelude.{ℕ, ◌+◌, ◌^◌, ◌≤◌, Bool, true, false, not, ◌&&◌, ◌≡◌, List, [], ◌∷◌, length}
+use Rattle.std.specs.Prelude.{ℕ, ◌+◌, ◌^◌, ◌≤◌, Bool, true, false, not, ◌&&◌, ◌≡◌, List, [], ◌∷◌, length, Option, Some, None, Result, Ok, Err}
 use Rattle.wire.specs.Outcome.{Outcome, ok, refused, refuse, ◌>>=◌}
 use Rattle.wire.specs.Walk.{walk}
 use Rattle.opmsg.specs.Names.{same_text}
 use Rattle.listing_lines.specs.Words
 use Rattle.listing_stored.specs.Version.{Version}
 use Rattle.listing_fields.specs.Numbers.{fields_of, field}
-use Rattle.listing_stored.specs.Stored.{Position, start, after_message, Kind, message, big, bad, kinds, rule_of, line_at, Told}
-use Rattle.listing_fields.specs.declared.Number.{Number}
-use Rattle.listing_fields.specs.declared.Number.TheVariants as number
+use Rattle.listing_stored.specs.Stored.{Position, start, Kind, message, big, bad, kinds, rule_of, line_at, Told}
 use Rattle.listing_stored.specs.declared.Limits.{Limits}
-use Rattle.listing_stored.specs.declared.Found.{Found}
-use Rattle.listing_stored.specs.declared.Found.TheVariants as found
 use Rattle.listing_stored.specs.declared.Place.{Place}
-use Rattle.listing_stored.specs.declared.Stored.{Stored}
-use Rattle.listing_stored.specs.declared.Stored.TheVariants as stored
-use Rattle.listing_stored.specs.declared.Line.{Line}
-use Rattle.listing_stored.specs.declared.Line.TheVariants as line
-
--- a number where another test holds
-abbrev pub only_if : Bool → Number → Number
-only_if true n = n
-only_if false n = number.Wrong
+use Rattle.listing_stored.specs.declared.Listing.{Listing}
+use Rattle.listing_stored.specs.declared.WrongLine.{WrongLine}
 
 -- ---- versions
 
 abbrev pub limited : Limits → Version
 limited v = record { number = v.number; longest = v.longest; sequences = v.sequences; elements = v.elements; has_big = v.big }
 
-abbrev pub found_version : Found → Outcome Version
-found_version (found.Version v) = ok (limited v)
-found_version found.Nothing = refused 38 1
+abbrev pub found_version : Option Limits → Outcome Version
+found_version (Some v) = ok (limited v)
+found_version None = refused 38 1
 
 -- ---- lines
 
@@ -43,23 +32,14 @@ offset_of false n = n
 abbrev pub position_of : Place → Position
 position_of p = record { line = p.line; offset = offset_of p.far p.offset; messages = p.messages; bad = p.bad; ended = p.ended }
 
-abbrev pub lined : (k : ℕ) → Line → Outcome Position
-lined k (line.Past q) = ok (position_of q)
-lined k line.Wrong = refused 38 k
-
--- the position behind a message of as many bytes as a field tells, and one that stands where a test holds
-abbrev pub grown : Position → Number → Outcome Position
-grown p (number.Is n) = ok (after_message p n)
-grown p number.Wrong = refused 38 p.line
-
-abbrev pub held : (k : ℕ) → Position → Bool → Outcome Position
-held k q true = ok q
-held k q false = refused 38 k
+abbrev pub lined : (k : ℕ) → Option Place → Outcome Position
+lined k (Some q) = ok (position_of q)
+lined k None = refused 38 k
 
 -- a line adds one to the lines, and at most one to the messages
-abbrev pub Follows : Place → Line → Type 0
-Follows p (line.Past q) = (q.line ≡ p.line + 1) × (q.messages ≤ p.messages + 1)
-Follows p line.Wrong = Unit {0}
+abbrev pub Follows : Place → Option Place → Type 0
+Follows p (Some q) = (q.line ≡ p.line + 1) × (q.messages ≤ p.messages + 1)
+Follows p None = Unit {0}
 
 -- the kinds of lines but `end`
 unfoldable pub entries : List Kind
@@ -98,6 +78,6 @@ abbrev pub all_lines : Version → List ℕ → Outcome Told
 all_lines v xs = run v xs start >>= answered v
 
 -- how far an answer over n bytes goes: at most as many messages as bytes, and a line that is there or the next
-abbrev pub Within : ℕ → Stored → Type 0
-Within n (stored.Listing version messages) = messages ≤ n
-Within n (stored.Refused number line) = (number ≡ 38) × (line ≤ n + 2)
+abbrev pub Within : ℕ → Result Listing WrongLine → Type 0
+Within n (Ok l) = l.messages ≤ n
+Within n (Err w) = w.line ≤ n + 2

@@ -3,7 +3,8 @@
 
 ghost use Rattle.std.specs.Prelude.{◌≡◌, ◌+◌, ◌^◌, ◌<◌, length};
 ghost use Rattle.opmsg.specs.Sections.{sequence_at};
-ghost use Rattle.opmsg.specs.View.{sequence_count, answer};
+ghost use Rattle.opmsg.specs.View.{sequence_count};
+ghost use Rattle.refusal.specs.Told.{told};
 ghost use Rattle.opmsg.specs.Inner.{judged};
 ghost use Rattle.message.specs.Message.{viewed, output};
 ghost use Rattle.message.specs.Append.{append};
@@ -11,8 +12,10 @@ ghost use Rattle.message.specs.Inner.{decided};
 ghost use Rattle.message_append_checks.specs.Inner.{grown};
 
 use message_append_checks::{Found, examine};
-use opmsg::{Edition, Entry, Range, Reading, Section, Verdict, View};
-use opmsg_view::refusal;
+use message_append_store::appended;
+use opmsg::{Edition, Entry, Range, Section, View};
+use opmsg_read::read;
+use refusal::Refusal;
 
 // A sequence whose kind byte is at a place; its identifier has n bytes and its documents d.
 fn sequence_at(at: usize, n: usize, d: usize, number: u32) -> Section
@@ -34,67 +37,47 @@ fn sequence_at(at: usize, n: usize, d: usize, number: u32) -> Section
     }
 }
 
-// The view with one sequence more, behind the sections that its used entries show: its kind byte is at a place, its identifier has n bytes
-// and its documents d.
-fn grown(v: View, used: usize, at: usize, n: usize, d: usize, documents: u32, elements: u32) -> View
-    requires { (v.length + (n + 6 + d) < 2 ^ 32) × (at + (n + 6 + d) < 2 ^ 32) × (used < 17) × (used ≡ sequence_count v + 1) }
-    ensures { result ≡ grown v at n d documents elements }
+// The view with one sequence more, behind the sections that its used entries show: its identifier has n bytes and its documents d.
+fn grown(v: View, n: usize, d: usize, found: Found) -> View
+    requires { (v.length + (n + 6 + d) < 2 ^ 32) × (found.end + (n + 6 + d) < 2 ^ 32) × (found.used < 17) × (found.used ≡ sequence_count v + 1) }
+    ensures { result ≡ grown v found.end n d found.documents found.elements }
 {
-    let mut entries = v.entries;
-    let section = sequence_at(at, n, d, documents);
-    entries[used] = Entry { section };
-    View {
-        length: v.length + (n + 6 + d) as u32,
-        request_id: v.request_id,
-        response_to: v.response_to,
-        flags: v.flags,
-        entries,
-        elements,
-    }
+    let mut view = v;
+    let section = sequence_at(found.end, n, d, found.documents);
+    view.entries[found.used] = Entry { section };
+    view.length = v.length + (n + 6 + d) as u32;
+    view.elements = found.elements;
+    view
 }
 
 // What appending to an output with so much room answers; nothing is written.
-pub fn check(e: Edition, s: &[u8], identifier: &[u8], documents: &[u8], room: usize) -> Verdict
+pub fn check(
+    e: Edition,
+    s: &[u8],
+    identifier: &[u8],
+    documents: &[u8],
+    room: usize,
+) -> Result<(), Refusal>
     ensures { judged result ≡ decided (append e s.now identifier.now documents.now room) }
 {
-    let found = opmsg_read::read(e, s);
-    let verdict = found.verdict;
-    let Verdict::Accepted = verdict else {
-        return verdict;
-    };
-    match examine(e, s, found.view, identifier, documents, room) {
-        Found::New { .. } => Verdict::Accepted,
-        Found::Refused { number, place } => Verdict::Refused { number, place },
-    }
+    let v = read(e, s)?;
+    examine(e, s, v, identifier, documents, room)?;
+    Ok(())
 }
 
 // Appends a section with an identifier, without its zero byte, and a run of documents to the message at the start of s.
-pub fn append(e: Edition, s: &[u8], identifier: &[u8], documents: &[u8], out: &mut [u8]) -> Reading
-    ensures shows { result ≡ answer (viewed (append e s.now identifier.now documents.now (length out.old))) }
+pub fn append(
+    e: Edition,
+    s: &[u8],
+    identifier: &[u8],
+    documents: &[u8],
+    out: &mut [u8],
+) -> Result<View, Refusal>
+    ensures shows { told result ≡ viewed (append e s.now identifier.now documents.now (length out.old)) }
     ensures writes { out.new ≡ output (append e s.now identifier.now documents.now (length out.old)) out.old }
 {
-    let found = opmsg_read::read(e, s);
-    let verdict = found.verdict;
-    let Verdict::Accepted = verdict else {
-        return found;
-    };
-    let v = found.view;
-    match examine(e, s, v, identifier, documents, out.len()) {
-        Found::New {
-            end,
-            used,
-            documents: number,
-            elements,
-        } => {
-            message_append_store::appended(out, s, end, v.flags, identifier, documents);
-            let n = identifier.len();
-            let d = documents.len();
-            let view = grown(v, used, end, n, d, number, elements);
-            Reading {
-                verdict: Verdict::Accepted,
-                view,
-            }
-        }
-        Found::Refused { number, place } => refusal(number, place),
-    }
+    let v = read(e, s)?;
+    let found = examine(e, s, v, identifier, documents, out.len())?;
+    appended(out, s, found.end, v.flags, identifier, documents);
+    Ok(grown(v, identifier.len(), documents.len(), found))
 }

@@ -2,3 +2,4 @@ pub mod Held
 pub mod Section
 pub mod Appending
 pub mod Answers
+pub mod Cases

@@ -1,6 +1,6 @@
 -- What an append checks behind reading, what its view shows, and what is known once its parts are examined.
 -- Assumes nothing: these are definitions.
-use Rattle.std.specs.Prelude.{ℕ, ◌+◌, ◌-◌, not, List, ◌++◌, ◌≡◌, length, set, take, drop, ltb, leb, eqb}
+use Rattle.std.specs.Prelude.{ℕ, ◌+◌, ◌-◌, not, List, ◌++◌, ◌≡◌, length, set, take, drop, ltb, leb, eqb, Result, Ok, Err}
 use Rattle.wire.specs.Outcome.{Outcome, ok, refuse, ◌>>=◌, refused}
 use Rattle.wire.specs.Bytes.{until_zero}
 use Rattle.wire.specs.Walk.{walk}
@@ -14,8 +14,9 @@ use Rattle.opmsg.specs.declared.Edition.{Edition}
 use Rattle.opmsg.specs.declared.Range.{Range}
 use Rattle.opmsg.specs.declared.View.{View}
 use Rattle.message.specs.Append.{sequence_bytes, appended, append}
+use Rattle.refusal.specs.Told.{number}
+use Rattle.refusal.specs.declared.Refusal.{Refusal}
 use Rattle.message_append_checks.specs.declared.Found.{Found}
-use Rattle.message_append_checks.specs.declared.Found.TheVariants as found
 
 -- the checks between reading the message and reading the new one, which has `whole` bytes; the sections end at a place, and `count` sequences are there
 unfoldable pub allowed : Edition → (end count : ℕ) → (identifier : List ℕ) → (whole room : ℕ) → Outcome (Unit {0})
@@ -58,8 +59,8 @@ pub record Ready (e : Edition) (s identifier documents : List ℕ) (v : View) (e
       ≡ ok (record { documents = number; elements = elements })
 
 -- the message that grows by an identifier and documents, or the refusal
-abbrev pub Examined : Edition → (s : List ℕ) → View → (identifier documents : List ℕ) → (room : ℕ) → Found → Type 0
-Examined e s v identifier documents room (found.New end used number elements) = Ready e s identifier documents v end used number elements room
+abbrev pub Examined : Edition → (s : List ℕ) → View → (identifier documents : List ℕ) → (room : ℕ) → Result Found Refusal → Type 0
+Examined e s v identifier documents room (Ok f) = Ready e s identifier documents v f.end f.used f.documents f.elements room
     × (append e s identifier documents room
-    ≡ ok (record { view = grown v end (length identifier) (length documents) number elements; bytes = appended s v.flags (take (end - 20) (drop 20 s) ++ sequence_bytes identifier documents) }))
-Examined e s v identifier documents room (found.Refused number place) = append e s identifier documents room ≡ refused number place
+    ≡ ok (record { view = grown v f.end (length identifier) (length documents) f.documents f.elements; bytes = appended s v.flags (take (f.end - 20) (drop 20 s) ++ sequence_bytes identifier documents) }))
+Examined e s v identifier documents room (Err r) = append e s identifier documents room ≡ refused (number r.reason) r.place

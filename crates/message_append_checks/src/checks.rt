@@ -1,31 +1,18 @@
 // The checks of an append between reading the message and reading the new documents.
-ghost use Rattle.std.specs.Prelude.{◌≡◌, ◌+◌, ◌^◌, ◌<◌, ltb, length};
+ghost use Rattle.std.specs.Prelude.{◌≡◌, ◌+◌, ◌^◌, ◌<◌, length};
 ghost use Rattle.utf8.specs.Text.{text_at};
-ghost use Rattle.opmsg.specs.Layout.{max_length};
 ghost use Rattle.opmsg.specs.Inner.{judged};
 ghost use Rattle.message_append_checks.specs.Inner.{allowed, permitted};
 
-use opmsg::{Edition, Verdict, refused};
+use opmsg::Edition;
 use opmsg_header::MAX_LENGTH;
 use opmsg_sequences::MAX_SEQUENCES;
+use refusal::{Reason, Refusal};
 use utf8_text::well_formed;
 use wire::until_zero;
 
-// A message of `old` bytes with a new section passes the limit; the identifier has n bytes and the documents d.
-fn too_long(old: u32, n: usize, d: usize) -> bool
-    ensures { result ≡ ltb max_length (old + (n + 6 + d)) }
-{
-    let limit = MAX_LENGTH as usize;
-    if limit < n {
-        return true;
-    }
-    if limit < d {
-        return true;
-    }
-    limit < old as usize + (n + 6 + d)
-}
-
 // Checks 10, 14, 13, 2 and 25, for a message of `old` bytes and `count` sequences whose sections end at `end`, and documents of d bytes.
+#[tactic(auto, using(crate::proofs::Cases::cases))]
 fn between_readings(
     e: Edition,
     end: usize,
@@ -34,45 +21,46 @@ fn between_readings(
     identifier: &[u8],
     d: usize,
     room: usize,
-) -> Verdict
+) -> Result<(), Refusal>
     requires { end + 5 < 2 ^ 64 }
     ensures { judged result ≡ allowed e end count identifier.now (old + (length identifier.now + 6 + d)) room }
 {
     if !e.sequences {
-        return refused(10, end);
+        return Err(Reason::UnknownSection.at(end));
     }
     if MAX_SEQUENCES <= count as usize {
-        return refused(14, end);
+        return Err(Reason::TooManySequences.at(end));
     }
     let n = identifier.len();
-    if n == 0 {
-        return refused(13, end + 5);
+    if n == 0 || until_zero(identifier) < n {
+        return Err(Reason::Identifier.at(end + 5));
     }
-    if until_zero(identifier) < n {
-        return refused(13, end + 5);
+    // A sum that saturates is over the limit all the same.
+    let whole = (old as usize + 6).saturating_add(n).saturating_add(d);
+    if whole > MAX_LENGTH as usize {
+        return Err(Reason::MessageLength.at(0));
     }
-    if too_long(old, n, d) {
-        return refused(2, 0);
+    if room < whole {
+        return Err(Reason::ShortOutput.at(0));
     }
-    if room < old as usize + (n + 6 + d) {
-        return refused(25, 0);
-    }
-    Verdict::Accepted
+    Ok(())
 }
 
 // Check 27: the identifier as text, at its place in the new message.
-fn named(identifier: &[u8], place: usize) -> Verdict
+#[tactic(auto, using(crate::proofs::Cases::cases))]
+fn named(identifier: &[u8], place: usize) -> Result<(), Refusal>
     requires { place + length identifier.now < 2 ^ 64 }
     ensures { judged result ≡ text_at place identifier.now }
 {
     let n = well_formed(identifier);
     if n < identifier.len() {
-        return refused(27, place + n);
+        return Err(Reason::NotUtf8.at(place + n));
     }
-    Verdict::Accepted
+    Ok(())
 }
 
 // All of them.
+#[tactic(auto, using(crate::proofs::Cases::cases))]
 pub(crate) fn before_documents(
     e: Edition,
     end: usize,
@@ -81,13 +69,10 @@ pub(crate) fn before_documents(
     identifier: &[u8],
     d: usize,
     room: usize,
-) -> Verdict
+) -> Result<(), Refusal>
     requires { end + 5 < 2 ^ 63 }
     ensures { judged result ≡ permitted e end count identifier.now (old + (length identifier.now + 6 + d)) room }
 {
-    let passed = between_readings(e, end, count, old, identifier, d, room);
-    let Verdict::Accepted = passed else {
-        return passed;
-    };
+    between_readings(e, end, count, old, identifier, d, room)?;
     named(identifier, end + 5)
 }

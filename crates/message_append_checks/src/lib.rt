@@ -12,26 +12,19 @@ ghost use Rattle.opmsg.specs.Read.{read};
 ghost use Rattle.message_append_checks.specs.Inner.{shown_body, Examined};
 
 use checks::before_documents;
-use opmsg::{Edition, Verdict, View};
-use opmsg_documents::Counted;
+use opmsg::{Edition, View};
 use opmsg_flags::checksum_size;
 use opmsg_identifiers::taken;
 use opmsg_view::{body, sequence_count};
+use refusal::{Reason, Refusal};
 
-// What an append finds of its parts: where the message's sections end, how many entries show them, and the documents counted with all elements;
-// or why it refuses.
-#[derive(Drop)]
-pub enum Found {
-    New {
-        end: usize,
-        used: usize,
-        documents: u32,
-        elements: u32,
-    },
-    Refused {
-        number: u32,
-        place: usize,
-    },
+// What an append finds of its parts: where the message's sections end, how many entries show them, and the documents counted with all elements.
+#[derive(Clone, Copy)]
+pub struct Found {
+    pub end: usize,
+    pub used: usize,
+    pub documents: u32,
+    pub elements: u32,
 }
 
 // The identifier clashes with a name of the message, whose sections end at a place and are shown by so many entries.
@@ -62,38 +55,24 @@ pub fn examine(
     identifier: &[u8],
     documents: &[u8],
     room: usize,
-) -> Found
+) -> Result<Found, Refusal>
     requires { read e s.now ≡ ok v }
     ensures { Examined e s.now v identifier.now documents.now room result }
 {
     let end = (v.length - checksum_size(v.flags)) as usize;
     let count = sequence_count(v);
-    let d = documents.len();
-    let passed = before_documents(e, end, count, v.length, identifier, d, room);
-    if let Verdict::Refused { number, place } = passed {
-        return Found::Refused { number, place };
-    }
+    before_documents(e, end, count, v.length, identifier, documents.len(), room)?;
     let at = end + (identifier.len() + 6);
-    match opmsg_documents::documents(documents, at as u32, v.elements) {
-        Counted::Past {
-            documents: number,
-            elements,
-        } => {
-            // one entry more is the body's
-            let used = count as usize + 1;
-            if repeated(s, v, end, used, identifier) {
-                return Found::Refused {
-                    number: 24,
-                    place: end + 5,
-                };
-            }
-            Found::New {
-                end,
-                used,
-                documents: number,
-                elements,
-            }
-        }
-        Counted::Refused { number, place } => Found::Refused { number, place },
+    let counted = opmsg_documents::documents(documents, at as u32, v.elements)?;
+    // one entry more is the body's
+    let used = count as usize + 1;
+    if repeated(s, v, end, used, identifier) {
+        return Err(Reason::RepeatedIdentifier.at(end + 5));
     }
+    Ok(Found {
+        end,
+        used,
+        documents: counted.documents,
+        elements: counted.elements,
+    })
 }

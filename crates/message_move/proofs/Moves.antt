@@ -7,7 +7,7 @@ use native.Mathlib.Omega.{arith}
 use lib.ListN.{length, take, drop, length-append, length-drop}
 use lib.Seq.{length-take-le}
 use lib.Dec.{ltb}
-use borrow.Author.Tests.{ltb-false, le-ltb}
+use borrow.Author.Tests.{ltb-false, lt-ltb, le-ltb}
 use Rattle.wire.specs.Outcome.{Outcome, ok, refused, refuse, ◌>>=◌}
 use Rattle.wire.specs.Bytes.{Bytes}
 use Rattle.wire.proofs.Outcome.{passed, clear, pass, go_on, halt, assoc}
@@ -40,6 +40,23 @@ chunks_total : {e : Edition} {s : List ℕ} {qs : List Section} {m l : ℕ} → 
 unfolding total_size
 chunks_total no_chunk = refl
 chunks_total (chunk_and c st r) = rw (chunks_total r)
+
+-- ---- the checks behind reading, case by case
+
+module _ (count behind length room : ℕ) where
+  pub too_few : count < behind → movable count behind length room ≡ refused 28 0
+  unfolding movable refuse ◌>>=◌
+  too_few h = rw (movable, lt-ltb count behind h)
+
+  pub too_short : behind ≤ count → room < length → movable count behind length room ≡ refused 25 0
+  unfolding movable refuse ◌>>=◌
+  too_short l h = rw (movable, le-ltb count behind l, lt-ltb room length h)
+
+  pub may_move : behind ≤ count → length ≤ room → movable count behind length room ≡ ok tt
+  unfolding movable refuse ◌>>=◌
+  may_move l h = rw (movable, le-ltb count behind l, le-ltb room length h)
+
+pub ruleset cases = (too_few, too_short, may_move)
 
 module _ (e : Edition) (s : List ℕ) (behind room : ℕ) where
   pub move_unread : {number place : ℕ} → read e s ≡ refused number place → move e s behind room ≡ refused number place
@@ -117,6 +134,20 @@ pub record Ordered (e : Edition) (s : List ℕ) (v : View) (behind : ℕ) (entri
   pub entries_is : entries ≡ padded (reordered behind (sections_of v))
   pub n_is : n ≡ sequence_count v + 1
 
+module _ (e : Edition) (s : List ℕ) {v : View} {count : ℕ} (behind room : ℕ) (bytes : Bytes s) (read_is : ok v ≡ read e s) (many : count ≡ sequence_count v)
+    (passed_is : ok tt ≡ movable count behind v.length room) where
+  pub few : behind ≤ sequence_count v
+  few = behind_few e s behind room v (sym read_is) bytes (sym (rw many at passed_is))
+
+  pub room_left : v.length ≤ room
+  room_left = has_room e s behind room v (sym read_is) bytes (sym (rw many at passed_is))
+
+  pub answered : move e s behind room ≡ ok (record { view = moved_view v behind; bytes = moved s v behind })
+  answered = move_fits e s behind room v (sym read_is) bytes (sym (rw many at passed_is))
+
+  pub ordered : {entries : List Entry} → entries ≡ padded (reordered behind (sections_of v)) → Ordered e s v behind entries (count + 1)
+  ordered h = record { bytes = bytes; shown = sym read_is; few = few; entries_is = h; n_is = ap (λ (x : ℕ). x + 1) many }
+
 module _ {e : Edition} {s : List ℕ} {v : View} {behind : ℕ} {entries : List Entry} {n : ℕ} (o : Ordered e s v behind entries n) where
   first_order : first_sections n entries ≡ reordered behind (sections_of v)
   first_order = rw o.entries_is (first_padded (reordered behind (sections_of v)) n (order_length e s v o.bytes o.shown behind o.few ∙ sym o.n_is))
@@ -138,6 +169,6 @@ module _ {e : Edition} {s : List ℕ} {v : View} {behind : ℕ} {entries : List 
   unfolding moved
   bytes_moved = rw first_order
 
-  pub view_moved : with_sections v entries n ≡ moved_view v behind
+  pub view_moved : with_sections v (take n entries) ≡ moved_view v behind
   unfolding with_sections moved_view
   view_moved = rw (with_sections, first_order)

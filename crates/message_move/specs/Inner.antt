@@ -1,10 +1,9 @@
 -- What the functions behind the call give: where sections go, and what the view shows of them.
 -- Assumes nothing: these are definitions.
-use Rattle.std.specs.Prelude.{ℕ, ◌+◌, true, false, List, [], ◌∷◌, ltb}
+use Rattle.std.specs.Prelude.{ℕ, ◌+◌, true, false, List, [], ◌∷◌, map, ltb}
 use Rattle.wire.specs.Outcome.{Outcome, refuse, ◌>>=◌}
 use Rattle.opmsg.specs.Sections.{section_size}
 use Rattle.opmsg.specs.View.{padded}
-use Rattle.opmsg.specs.Inner.{first_sections}
 use Rattle.opmsg.specs.declared.Section.{Section}
 use Rattle.opmsg.specs.declared.Entry.{Entry}
 use Rattle.opmsg.specs.declared.View.{View}
@@ -19,14 +18,18 @@ unfoldable pub total_size : List Section → ℕ
 total_size [] = 0
 total_size (q ∷ qs) = section_size q + total_size qs
 
--- the view v of a message with other sections, which the first n of a list of entries say, one behind the other
-unfoldable pub with_sections : View → List Entry → (n : ℕ) → View
-with_sections v entries n = record {
+-- what entries say
+abbrev pub said : List Entry → List Section
+said entries = map (λ x. x.section) entries
+
+-- the view v of a message with other sections, which the entries say, one behind the other
+unfoldable pub with_sections : View → List Entry → View
+with_sections v entries = record {
   length = v.length;
   request_id = v.request_id;
   response_to = v.response_to;
   flags = v.flags;
-  entries = padded (placed_from 20 (first_sections n entries));
+  entries = padded (placed_from 20 (said entries));
   elements = v.elements;
 }
 

@@ -6,6 +6,7 @@ use mathlib.Core.List.{List, [], ◌∷◌, ◌++◌, map, flat_map, append_asso
 use native.Mathlib.Omega.{arith}
 use lib.ListN.{length, take, drop, length-append, take-append-drop}
 use lib.Seq.{length-take-le, take_at}
+use Rattle.std.proofs.lemmas.List.{take_all}
 use Rattle.wire.specs.Bytes.{le32, put}
 use Rattle.opmsg.specs.Layout.{checksum_size}
 use Rattle.opmsg.specs.Inner.{first_sections}
@@ -15,50 +16,55 @@ use Rattle.message.specs.Message.{checksum, message}
 use Rattle.message.specs.Move.{section_in}
 use Rattle.message.proofs.Tiles.{flat_append}
 use Rattle.message_seal.specs.Inner.{overwritten}
+use Rattle.message_move_store.specs.Inner.{laid}
 use Rattle.message_seal.proofs.Stores.{Stored, stores_none, stored_length, stores, stores_over, sealed}
 
 -- the bytes of the sections of s that the first i entries say
-abbrev pub laid : List ℕ → List Entry → ℕ → List ℕ
-laid s entries i = flat_map (section_in s) (first_sections i entries)
+abbrev pub laid_by : List ℕ → List Entry → ℕ → List ℕ
+laid_by s entries i = laid s (take i entries)
+
+-- those that all entries say
+pub laid_by_all : (s : List ℕ) (entries : List Entry) (i : ℕ) → length entries ≤ i → laid_by s entries i ≡ laid s entries
+laid_by_all s entries i h = ap (laid s) (take_all i entries h)
 
 module _ (s : List ℕ) (entries : List Entry) (i : ℕ) where
-  pub laid_next : i < length entries → laid s entries (i + 1) ≡ laid s entries i ++ section_in s (said_at entries i)
+  pub laid_next : i < length entries → laid_by s entries (i + 1) ≡ laid_by s entries i ++ section_in s (said_at entries i)
   unfolding flat_map
   laid_next h =
       ap (flat_map (section_in s)) (first_next entries i h) ∙ flat_append (section_in s) (first_sections i entries) (said_at entries i ∷ [])
-      ∙ ap (λ (l : List ℕ). laid s entries i ++ l) (append-nil (section_in s (said_at entries i)))
+      ∙ ap (λ (l : List ℕ). laid_by s entries i ++ l) (append-nil (section_in s (said_at entries i)))
 
-  pub laid_within : (n : ℕ) → i ≤ n → length (laid s entries i) ≤ length (laid s entries n)
+  pub laid_within : (n : ℕ) → i ≤ n → length (laid_by s entries i) ≤ length (laid_by s entries n)
   laid_within n h =
       let rest = map (λ (x : Entry). x.section) (drop i (take n entries)) in
       let all = ap (flat_map (section_in s)) (first_split entries i n h) ∙ flat_append (section_in s) (first_sections i entries) rest in
-      omega (arith, ap length all, length-append (laid s entries i) (flat_map (section_in s) rest))
+      omega (arith, ap length all, length-append (laid_by s entries i) (flat_map (section_in s) rest))
 
 -- ---- in code: the sections of the first i entries are stored behind the 20 bytes that stood there
 
 abbrev pub Laid : List ℕ → List Entry → (i at : ℕ) → (old now : List ℕ) → Type 0
-Laid s entries i at old now = (at ≡ 20 + length (laid s entries i)) × Stored (take 20 old ++ laid s entries i) old now
+Laid s entries i at old now = (at ≡ 20 + length (laid_by s entries i)) × Stored (take 20 old ++ laid_by s entries i) old now
 
 module _ (s : List ℕ) (entries : List Entry) (old : List ℕ) (low : 20 ≤ length old) where
   pub lays_none : Laid s entries 0 20 old old
   unfolding flat_map
   lays_none = (refl, rw (append-nil (take 20 old), length-take-le 20 old low) (sym (take-append-drop 20 old)))
 
-  front_length : (i : ℕ) → length (take 20 old ++ laid s entries i) ≡ 20 + length (laid s entries i)
-  front_length i = length-append (take 20 old) (laid s entries i) ∙ rw (length-take-le 20 old low)
+  front_length : (i : ℕ) → length (take 20 old ++ laid_by s entries i) ≡ 20 + length (laid_by s entries i)
+  front_length i = length-append (take 20 old) (laid_by s entries i) ∙ rw (length-take-le 20 old low)
 
   module _ (i at : ℕ) (now : List ℕ) (k : Laid s entries i at old now) where
-    pub laid_length : 20 + length (laid s entries i) ≤ length old → length now ≡ length old
-    laid_length h = stored_length (take 20 old ++ laid s entries i) old now (omega (arith, front_length i)) k.1
+    pub laid_length : 20 + length (laid_by s entries i) ≤ length old → length now ≡ length old
+    laid_length h = stored_length (take 20 old ++ laid_by s entries i) old now (omega (arith, front_length i)) k.1
 
-    pub lays_next : i < length entries → 20 + length (laid s entries (i + 1)) ≤ length old → (x : List ℕ) → x ≡ section_in s (said_at entries i)
+    pub lays_next : i < length entries → 20 + length (laid_by s entries (i + 1)) ≤ length old → (x : List ℕ) → x ≡ section_in s (said_at entries i)
         → Laid s entries (i + 1) (at + length x) old (put at x now)
     lays_next h fits x is =
-        let more : laid s entries (i + 1) ≡ laid s entries i ++ x = rw is (laid_next s entries i h) in
-        let long = length-append (laid s entries i) x in (
+        let more : laid_by s entries (i + 1) ≡ laid_by s entries i ++ x = rw is (laid_next s entries i h) in
+        let long = length-append (laid_by s entries i) x in (
           omega (arith, k.0, ap length more),
-          rw more (stores (take 20 old ++ laid s entries i) x old now at (omega (arith, k.0, front_length i)) (omega (arith, front_length i, ap length more)) k.1
-              ∙ ap (λ (m : List ℕ). overwritten m old) (append_assoc (take 20 old) (laid s entries i) x)),
+          rw more (stores (take 20 old ++ laid_by s entries i) x old now at (omega (arith, k.0, front_length i)) (omega (arith, front_length i, ap length more)) k.1
+              ∙ ap (λ (m : List ℕ). overwritten m old) (append_assoc (take 20 old) (laid_by s entries i) x)),
         )
 
 -- ---- header, flag word, sections and checksum

@@ -3,20 +3,20 @@
 
 ghost use Rattle.std.specs.Prelude.{◌≡◌, ◌+◌, ◌^◌, ◌<◌, ℤ, length};
 ghost use Rattle.opmsg.specs.Layout.{checksum_size};
-ghost use Rattle.opmsg.specs.View.{answer};
+ghost use Rattle.refusal.specs.Told.{told};
 ghost use Rattle.opmsg.specs.Inner.{judged};
 ghost use Rattle.message.specs.Message.{viewed, output};
 ghost use Rattle.message.specs.Write.{write};
 ghost use Rattle.message.specs.Inner.{decided};
 ghost use Rattle.message_write.specs.Inner.{shown};
 
-use bson::Walk;
 use message_write_checks::{before_reading, examine_body};
-use opmsg::{Edition, Entry, Range, Reading, Section, Verdict, View, no_entries};
+use opmsg::{Edition, Entry, Range, Section, View, no_entries};
 use opmsg_flags::checksum_size;
-use opmsg_view::refusal;
+use refusal::Refusal;
 
 // How long the message is.
+#[tactic(auto, using(opmsg::proofs::Limits::checksum_small))]
 fn whole(flags: u32, size: usize) -> u32
     requires { size < 2 ^ 30 }
     ensures { result ≡ 21 + size + checksum_size flags }
@@ -59,45 +59,29 @@ pub fn write(
     flags: u32,
     body: &[u8],
     out: &mut [u8],
-) -> Reading
-    ensures shows { result ≡ answer (viewed (write e request_id response_to flags body.now (length out.old))) }
+) -> Result<View, Refusal>
+    ensures shows { told result ≡ viewed (write e request_id response_to flags body.now (length out.old)) }
     ensures writes { out.new ≡ output (write e request_id response_to flags body.now (length out.old)) out.old }
 {
-    let checked = before_reading(e, flags, body, out.len());
-    if let Verdict::Refused { number, place } = checked {
-        return refusal(number, place);
-    }
-    match examine_body(body) {
-        Walk::Past { count, .. } => {
-            let size = whole(flags, body.len());
-            let view = view(
-                request_id,
-                response_to,
-                flags,
-                size,
-                body.len() as u32,
-                count,
-            );
-            message_write_store::written(request_id, response_to, flags, body, size, out);
-            Reading {
-                verdict: Verdict::Accepted,
-                view,
-            }
-        }
-        Walk::Refused { number, place } => refusal(number, place),
-    }
+    before_reading(e, flags, body, out.len())?;
+    let walk = examine_body(body)?;
+    let size = whole(flags, body.len());
+    message_write_store::written(request_id, response_to, flags, body, size, out);
+    Ok(view(
+        request_id,
+        response_to,
+        flags,
+        size,
+        body.len() as u32,
+        walk.count,
+    ))
 }
 
 // What writing to an output with so much room answers, whatever the ids; nothing is written.
-pub fn check(e: Edition, flags: u32, body: &[u8], room: usize) -> Verdict
+pub fn check(e: Edition, flags: u32, body: &[u8], room: usize) -> Result<(), Refusal>
     ensures { (request_id response_to : ℤ) → judged result ≡ decided (write e request_id response_to flags body.now room) }
 {
-    let checked = before_reading(e, flags, body, room);
-    let Verdict::Accepted = checked else {
-        return checked;
-    };
-    match examine_body(body) {
-        Walk::Past { .. } => Verdict::Accepted,
-        Walk::Refused { number, place } => Verdict::Refused { number, place },
-    }
+    before_reading(e, flags, body, room)?;
+    examine_body(body)?;
+    Ok(())
 }

@@ -1,6 +1,6 @@
 -- What a write decides before it stores anything, in document 01's terms.
 -- Assumes nothing: these are definitions.
-use Rattle.std.specs.Prelude.{ℕ, ◌-◌, ◌≤◌, false, not, List, [], ◌∷◌, ◌≡◌, ℤ}
+use Rattle.std.specs.Prelude.{ℕ, ◌-◌, ◌≤◌, false, not, List, [], ◌∷◌, ◌≡◌, ℤ, Result, Ok, Err}
 use lib.ListN.{take, drop}
 use Rattle.wire.specs.Outcome.{Outcome, ok, refused, ◌>>=◌}
 use Rattle.wire.specs.Bytes.{word}
@@ -12,8 +12,8 @@ use Rattle.opmsg.specs.Names.{never, distinct, element_names}
 use Rattle.message.specs.Message.{whole_length}
 use Rattle.message.specs.Write.{write}
 use Rattle.opmsg.specs.declared.Edition.{Edition}
-use Rattle.opmsg.specs.declared.Verdict.{Verdict}
-use Rattle.opmsg.specs.declared.Verdict.TheVariants.{Accepted, Refused}
+use Rattle.refusal.specs.Told.{number}
+use Rattle.refusal.specs.declared.Refusal.{Refusal}
 
 -- the checks before reading are passed
 pub record Fit (e : Edition) (flags : ℕ) (body : List ℕ) (room : ℕ) : Type 0 where
@@ -24,9 +24,9 @@ pub record Fit (e : Edition) (flags : ℕ) (body : List ℕ) (room : ℕ) : Type
   pub stated : word body ≡ lib.ListN.length body
 
 -- they are, or one of them refuses, whatever the ids
-abbrev pub Checked : Edition → (flags : ℕ) → (body : List ℕ) → (room : ℕ) → Verdict → Type 0
-Checked e flags body room Accepted = Fit e flags body room
-Checked e flags body room (Refused number place) = (request_id response_to : ℤ) → write e request_id response_to flags body room ≡ refused number place
+abbrev pub Checked : Edition → (flags : ℕ) → (body : List ℕ) → (room : ℕ) → Result (Unit {0}) Refusal → Type 0
+Checked e flags body room (Ok u) = Fit e flags body room
+Checked e flags body room (Err r) = (request_id response_to : ℤ) → write e request_id response_to flags body room ≡ refused (number r.reason) r.place
 
 -- the body at its place in the message, and check 23 of its names
 unfoldable pub body_examined : List ℕ → Outcome (Step ℕ)

@@ -1,22 +1,18 @@
 -- A list of entries, one by one, as code goes through it.
 -- Assumes nothing.
-use Prim.Native.Nat.{ℕ, suc, ◌+◌, ◌<◌, ◌≤◌}
+use Prim.Native.Nat.{ℕ, ◌+◌, ◌<◌, ◌≤◌}
 use mathlib.Core.Path.{◌≡◌, refl, sym, ap, ◌∙◌}
 use mathlib.Core.List.{List, [], ◌∷◌, ◌++◌, map, map-append}
-use mathlib.Core.Logic.{⊎_elim}
-use native.Mathlib.Omega.{arith}
 use native.Mathlib.Numerals.{add-one}
 use lib.ListN.{length, get_or, take, drop, drop_of_length-le, take-append-drop, length-map}
 use lib.Seq.{drop-cons, take-suc, take-take, length-take-le}
-use types.Run.{OneOf}
-use denote.Enum.Declared.{tag_of}
-use Rattle.opmsg.specs.Sections.{body_of, sequences_of}
+use Rattle.opmsg.specs.Sections.{sequences_of}
 use Rattle.opmsg.specs.View.{padded}
 use Rattle.opmsg.specs.Inner.{first_sections}
 use Rattle.opmsg.specs.declared.Section.{Section}
 use Rattle.opmsg.specs.declared.Section.TheVariants.{None, Body, Sequence}
 use Rattle.opmsg.specs.declared.Entry.{Entry}
-use Rattle.opmsg.specs.contracts.Section.{the_type}
+use Rattle.opmsg.specs.declared.Range.{Range}
 
 -- what an array of entries reads as past its end, and what entry i says
 abbrev pub no_entry : Entry
@@ -60,21 +56,12 @@ first_padded qs n h = rw (← h) (go qs _)
     go [] rs = refl
     go (q ∷ qs) rs = ap (λ (l : List Section). q ∷ l) (go qs rs)
 
--- a section that is no sequence, or no body, as a match of the code tells it by its tag
+-- a section that is no sequence, as a match of the code tells it
 abbrev pub NoSequence : Section → Type 0
-NoSequence q = OneOf (0 ∷ 1 ∷ []) (tag_of the_type q)
-
-abbrev pub NoBody : Section → Type 0
-NoBody q = OneOf (0 ∷ 2 ∷ []) (tag_of the_type q)
+NoSequence q = (identifier documents : Range) (number : ℕ) → q ≡ Sequence identifier documents number → ⊥
 
 pub no_sequence : (q : Section) (qs : List Section) → NoSequence q → sequences_of (q ∷ qs) ≡ sequences_of qs
 unfolding sequences_of
 no_sequence None qs h = refl
 no_sequence (Body range) qs h = refl
-no_sequence (Sequence identifier documents number) qs h = absurd (⊎_elim (λ e. omega (arith, e)) (λ e. omega (arith, e)) h)
-
-pub no_body : (q : Section) (qs : List Section) → NoBody q → body_of (q ∷ qs) ≡ body_of qs
-unfolding body_of
-no_body None qs h = refl
-no_body (Body range) qs h = absurd (⊎_elim (λ e. omega (arith, e)) (λ e. omega (arith, e)) h)
-no_body (Sequence identifier documents number) qs h = refl
+no_sequence (Sequence identifier documents number) qs h = absurd (h identifier documents number refl)

@@ -6,6 +6,5 @@ pub mod Front
 pub mod Shown
 pub mod Entries
 pub mod Differ
-pub mod Answered
 pub mod Bounds
 pub mod DottedExamples

@@ -1,8 +1,10 @@
 -- What the answers of the readers' parts stand for in document 01's terms, and what is kept of sections.
 -- Assumes nothing: these are definitions.
-use Rattle.std.specs.Prelude.{ℕ, ◌<◌, ◌≤◌, Bool, false, ◌||◌, List, [], map, ◌++◌, ◌≡◌}
+use Rattle.std.specs.Prelude.{ℕ, ◌<◌, ◌≤◌, Bool, false, ◌||◌, List, [], map, ◌++◌, ◌≡◌, Result}
 use lib.ListN.{get_or, take, drop}
-use Rattle.wire.specs.Outcome.{Outcome, ok, refused}
+use Rattle.wire.specs.Outcome.{Outcome}
+use Rattle.refusal.specs.declared.Refusal.{Refusal}
+use Rattle.refusal.specs.Told.{told}
 use Rattle.bson_elements.specs.Element.{element_size}
 use Rattle.opmsg.specs.Sections.{body_of, sequences_of}
 use Rattle.opmsg.specs.Names.{among, body_elements, body_names, identifiers, texts}
@@ -10,13 +12,10 @@ use Rattle.opmsg.specs.Dotted.{until_dot, elements_within, found}
 use Rattle.opmsg.specs.View.{padded}
 use Rattle.opmsg.specs.declared.Section.{Section}
 use Rattle.opmsg.specs.declared.Entry.{Entry}
-use Rattle.opmsg.specs.declared.Verdict.{Verdict}
-use Rattle.opmsg.specs.declared.Verdict.TheVariants.{Accepted, Refused}
 
 -- checks that are passed, or a refusal
-abbrev pub judged : Verdict → Outcome (Unit {0})
-judged Accepted = ok tt
-judged (Refused number place) = refused number place
+abbrev pub judged : Result (Unit {0}) Refusal → Outcome (Unit {0})
+judged = told
 
 -- bytes that elements fill, one after the other, and so within each document of type 03
 pub data Filled : List ℕ → Type 0 where

@@ -14,14 +14,8 @@ use Rattle.wire.specs.Outcome.{ok, refused}
 use Rattle.wire.proofs.Outcome.{pass, stop}
 use Rattle.opmsg.specs.Names.{Name, same_text, among, distinct, texts}
 use Rattle.opmsg_body_names.specs.Inner.{slot_of, marked, marking, Marks}
-use Rattle.opmsg.specs.declared.Verdict.{Verdict}
-use Rattle.opmsg.specs.declared.Verdict.TheVariants.{Accepted, Refused}
 use Rattle.opmsg_body_names.proofs.Marks.{holds_self, holds_more}
 use Rattle.opmsg_body_names.proofs.Texts.{not_both, same_text_lem, among_cons, among_append, among_last, take_whole, drop_next, texts_next}
-
--- a verdict is not both
-pub not_accepted {ℓ} : {A : Type ℓ} {v : Verdict} {number place : ℕ} → v ≡ Refused number place → v ≡ Accepted → A
-not_accepted e h = let z : ◌≡◌ {A = ℕ} 0 1 = cc in absurd (omega arith)
 
 -- ---- marks
 

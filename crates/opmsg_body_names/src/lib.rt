@@ -1,22 +1,14 @@
 // Check 23: names of elements that must differ.
 #![tactic(auto)]
 
-ghost use Rattle.std.specs.Prelude.{[], true, false, ◌≡◌, ◌+◌, ◌%◌, ◌^◌, ◌<◌, length, take};
+ghost use Rattle.std.specs.Prelude.{[], true, false, ◌≡◌, ◌+◌, ◌%◌, ◌^◌, ◌<◌, length, take, OnOk, IfOk};
 ghost use Rattle.opmsg.specs.Names.{same_text, among, never, distinct, element_names, names_of};
-ghost use Rattle.opmsg.specs.declared.Verdict.TheVariants.{Accepted};
 ghost use Rattle.opmsg.specs.Inner.{judged, Filled, Flat};
-ghost use Rattle.opmsg_body_names.specs.Inner.{spread, slot_of, marked, marking, Marks};
+ghost use Rattle.opmsg_body_names.specs.Inner.{spread, slot_of, marked, marking, Marks, names_told};
 
-use opmsg::{Verdict, refused};
 use opmsg_element_names::{end_words, name, next};
 use opmsg_name_tables::names_differ;
-
-// What check 23 tells of a body: the verdict, and whether it has documents in it, or perhaps has.
-#[derive(Drop)]
-pub struct Names {
-    pub verdict: Verdict,
-    pub nested: bool,
-}
+use refusal::{Reason, Refusal};
 
 // The type of an element whose value is a document.
 const DOCUMENT: u8 = 0x03;
@@ -30,31 +22,11 @@ const MANY: usize = 64;
 // The most bytes of a body whose names are likely to meet no mark.
 const LONG: usize = 0x1_0000;
 
-// A verdict on names, where nothing is known of documents.
-fn perhaps_nested(verdict: Verdict) -> Names
-    ensures { (result.verdict ≡ verdict) × (result.nested ≡ true) }
-{
-    Names {
-        verdict,
-        nested: true,
-    }
-}
-
 // Two texts are the same.
 pub fn same(a: &[u8], b: &[u8]) -> bool
     ensures { result ≡ same_text a.now b.now }
 {
-    if a.len() != b.len() {
-        return false;
-    }
-    let mut i: usize = 0;
-    while i < a.len() {
-        if a[i] != b[i] {
-            return false;
-        }
-        i += 1;
-    }
-    true
+    a == b
 }
 
 // A slot for a text that begins and ends with two words.
@@ -81,7 +53,6 @@ fn bit(slot: usize) -> u64
 
 // The mark of a text is made.
 pub fn is_marked(marks: &[u64; 32], text: &[u8]) -> bool
-    requires { length marks.now ≡ 32 }
     ensures { result ≡ marked marks.now (slot_of text.now) }
 {
     let place = slot(text);
@@ -91,7 +62,6 @@ pub fn is_marked(marks: &[u64; 32], text: &[u8]) -> bool
 
 // Makes the mark of a text, and tells whether it was made before.
 pub fn mark(marks: &mut [u64; 32], text: &[u8]) -> bool
-    requires { length marks.old ≡ 32 }
     ensures tells { result ≡ marked marks.old (slot_of text.now) }
     ensures makes { marks.new ≡ marking marks.old (slot_of text.now) }
 {
@@ -109,6 +79,7 @@ pub fn named(xs: &[u8], k: usize, text: &[u8]) -> bool
 {
     let mut i: usize = 0;
     let mut left = k;
+    // A turn passes what its element takes, so there is no range for a `for` to go over.
     while i < xs.len() {
         if left == 0 {
             return false;
@@ -125,11 +96,12 @@ pub fn named(xs: &[u8], k: usize, text: &[u8]) -> bool
 
 // Makes the marks of all names of the elements xs, and tells how many there are.
 fn mark_all(xs: &[u8], marks: &mut [u64; 32]) -> usize
-    requires { Filled xs.now × (length marks.old ≡ 32) }
+    requires { Filled xs.now }
     ensures { Marks (names_of xs.now) marks.new }
 {
     let mut number: usize = 0;
     let mut i: usize = 0;
+    // A turn passes what its element takes, so there is no range for a `for` to go over.
     while i < xs.len() {
         let text = name(xs, i);
         mark(marks, text);
@@ -140,10 +112,10 @@ fn mark_all(xs: &[u8], marks: &mut [u64; 32]) -> usize
 }
 
 // Check 23 by tables.
-fn by_tables(xs: &[u8], at: usize, marks: &mut [u64; 32]) -> Verdict
-    requires { Filled xs.now × (at + length xs.now < 2 ^ 64) × (length marks.old ≡ 32) × (length xs.now < 2 ^ 32) }
+fn by_tables(xs: &[u8], at: usize, marks: &mut [u64; 32]) -> Result<(), Refusal>
+    requires { Filled xs.now × (at + length xs.now < 2 ^ 64) × (length xs.now < 2 ^ 32) }
     ensures is { judged result ≡ distinct 23 never [] (element_names (length xs.now) at xs.now) }
-    ensures marked { result ≡ Accepted → Marks (names_of xs.now) marks.new }
+    ensures marked { OnOk result (Marks (names_of xs.now) marks.new) }
 {
     let number = mark_all(xs, marks);
     names_differ(xs, at, number)
@@ -153,10 +125,7 @@ fn by_tables(xs: &[u8], at: usize, marks: &mut [u64; 32]) -> Verdict
 fn past(n: usize, bound: usize, size: usize) -> bool
     ensures { result ≡ true → size < 2 ^ 32 }
 {
-    if size < 0x1_0000_0000 {
-        return bound < n;
-    }
-    false
+    size < 0x1_0000_0000 && bound < n
 }
 
 // What was met in vain, with one more that was compared with k names: many of them count more.
@@ -170,15 +139,16 @@ fn one_more(vain: usize, k: usize) -> usize {
 
 // Check 23 of a body's elements xs, the first at a place, where marks are met. A name whose mark is met is compared with those
 // before it; where that happens too often in vain, tables decide.
-fn compared(xs: &[u8], at: usize, marks: &mut [u64; 32]) -> Verdict
-    requires { Filled xs.now × (at + length xs.now < 2 ^ 64) × (length marks.old ≡ 32) }
+fn compared(xs: &[u8], at: usize, marks: &mut [u64; 32]) -> Result<(), Refusal>
+    requires { Filled xs.now × (at + length xs.now < 2 ^ 64) }
     ensures is { judged result ≡ distinct 23 never [] (element_names (length xs.now) at xs.now) }
-    ensures marked { result ≡ Accepted → Marks (names_of xs.now) marks.new }
+    ensures marked { OnOk result (Marks (names_of xs.now) marks.new) }
 {
     *marks = [0; 32];
     let mut vain: usize = 0;
     let mut k: usize = 0;
     let mut i: usize = 0;
+    // A turn passes what its element takes, so there is no range for a `for` to go over.
     while i < xs.len() {
         let text = name(xs, i);
         if mark(marks, text) {
@@ -186,41 +156,42 @@ fn compared(xs: &[u8], at: usize, marks: &mut [u64; 32]) -> Verdict
                 return by_tables(xs, at, marks);
             }
             if named(xs, k, text) {
-                return refused(23, at + i + 1);
+                return Err(Reason::RepeatedName.at(at + i + 1));
             }
             vain = one_more(vain, k);
         }
         k += 1;
         i = next(xs, i, text.len());
     }
-    Verdict::Accepted
+    Ok(())
 }
 
-// Check 23 of a body's elements xs, the first at a place. Their names get marks: where none is met, the names differ. `document` is the
-// place of the last document among them, or the end where there is none: it costs less to keep than a truth value.
-pub fn body_names(xs: &[u8], at: usize, marks: &mut [u64; 32]) -> Names
-    requires { Filled xs.now × (at + length xs.now < 2 ^ 64) × (length marks.old ≡ 32) }
-    ensures is { judged result.verdict ≡ distinct 23 never [] (element_names (length xs.now) at xs.now) }
-    ensures marked { result.verdict ≡ Accepted → Marks (names_of xs.now) marks.new }
-    ensures flat { result.nested ≡ false → Flat xs.now }
+// Check 23 of a body's elements xs, the first at a place, and whether documents are among them, or perhaps are. Their names get marks:
+// where none is met, the names differ. `document` is the place of the last document among them, or the end where there is none: it costs
+// less to keep than a truth value.
+pub fn body_names(xs: &[u8], at: usize, marks: &mut [u64; 32]) -> Result<bool, Refusal>
+    requires { Filled xs.now × (at + length xs.now < 2 ^ 64) }
+    ensures is { names_told result ≡ distinct 23 never [] (element_names (length xs.now) at xs.now) }
+    ensures marked { OnOk result (Marks (names_of xs.now) marks.new) }
+    ensures flat { IfOk result (λ nested. nested ≡ false → Flat xs.now) }
 {
     if LONG < xs.len() {
-        return perhaps_nested(compared(xs, at, marks));
+        compared(xs, at, marks)?;
+        return Ok(true);
     }
     let mut document = xs.len();
     let mut i: usize = 0;
+    // A turn passes what its element takes, so there is no range for a `for` to go over.
     while i < xs.len() {
         let text = name(xs, i);
         if mark(marks, text) {
-            return perhaps_nested(compared(xs, at, marks));
+            compared(xs, at, marks)?;
+            return Ok(true);
         }
         if xs[i] == DOCUMENT {
             document = i;
         }
         i = next(xs, i, text.len());
     }
-    Names {
-        verdict: Verdict::Accepted,
-        nested: document < xs.len(),
-    }
+    Ok(document < xs.len())
 }

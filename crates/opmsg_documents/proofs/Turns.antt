@@ -9,26 +9,25 @@ use Rattle.wire.specs.Outcome.{refused}
 use Rattle.wire.specs.Walk.{Step, step, walk}
 use Rattle.wire.proofs.Outcome.{ok_same, bound, go_on, halt}
 use Rattle.wire.proofs.Walk.{Advances, walk_turns}
-use Rattle.bson.specs.Document.{document_at, max_levels, told}
-use Rattle.bson.specs.declared.Walk.{Walk}
+use Rattle.bson.specs.Document.{document_at, max_levels}
 use Rattle.bson.proofs.Frame.{Framed, document_framed}
 use Rattle.opmsg.specs.Sections.{Run, next_document}
 
 abbrev pub run_of : ℕ → ℕ → Run
 run_of documents elements = record { documents = documents; elements = elements }
 
-module _ (at : ℕ) (xs : List ℕ) (count : ℕ) (w : Walk) (e : told w ≡ document_at max_levels at xs count) where
+module _ (at : ℕ) (xs : List ℕ) (count : ℕ) where
   -- a document that was passed is as long as it says, and one more of a run
-  pub past_framed : {size more : ℕ} → w ≡ Walk.Past size more → Framed xs size
-  past_framed {size} {more} h = document_framed max_levels at xs count (record { size = size; state = more }) (sym e ∙ ap told h)
+  pub past_framed : {size more : ℕ} → step size more ≡ document_at max_levels at xs count → Framed xs size
+  past_framed {size} {more} e = document_framed max_levels at xs count (record { size = size; state = more }) (sym e)
 
-  pub next_past : {size more : ℕ} (number : ℕ) → w ≡ Walk.Past size more → next_document at xs (run_of number count) ≡ step size (run_of (1 + number) more)
+  pub next_past : {size more : ℕ} (number : ℕ) → step size more ≡ document_at max_levels at xs count → next_document at xs (run_of number count) ≡ step size (run_of (number + 1) more)
   unfolding next_document
-  next_past number h = go_on _ (sym e ∙ ap told h)
+  next_past {size} {more} number e = let one : 1 + number ≡ number + 1 = omega arith in go_on _ (sym e) ∙ ap (λ (n : ℕ). step size (run_of n more)) one
 
-  pub next_refused : {n place : ℕ} (number : ℕ) → w ≡ Walk.Refused n place → next_document at xs (run_of number count) ≡ refused n place
+  pub next_refused : {n place : ℕ} (number : ℕ) → refused n place ≡ document_at max_levels at xs count → next_document at xs (run_of number count) ≡ refused n place
   unfolding next_document
-  next_refused number h = halt _ (sym e ∙ ap told h)
+  next_refused number e = halt _ (sym e)
 
 document_advances : Advances next_document
 unfolding next_document

@@ -6,40 +6,32 @@ ghost use Rattle.wire.specs.Walk.{walk};
 ghost use Rattle.opmsg.specs.Sections.{next_document};
 ghost use Rattle.opmsg_documents.specs.Inner.{told_run};
 
-use bson::Walk;
+use refusal::Refusal;
 
-// Documents back to back: their number and the elements counted by now, or a refusal.
-#[derive(Drop)]
-pub enum Counted {
-    Past { documents: u32, elements: u32 },
-    Refused { number: u32, place: usize },
+// Documents back to back: how many there are, and the elements counted by now.
+#[derive(Clone, Copy, Debug, PartialEq, Eq)]
+pub struct Counted {
+    pub documents: u32,
+    pub elements: u32,
 }
 
 // Documents that fill s.
-pub fn documents(s: &[u8], at: u32, count: u32) -> Counted
+pub fn documents(s: &[u8], at: u32, count: u32) -> Result<Counted, Refusal>
     requires { at + length s.now < 2 ^ 31 }
     ensures { (turns : ℕ) → length s.now ≤ turns → told_run result ≡ walk next_document turns at s.now (record { documents = 0; elements = count }) }
 {
-    let mut i: u32 = 0;
-    let mut number: u32 = 0;
+    let mut i = 0;
+    let mut documents = 0;
     let mut elements = count;
-    let end = s.len() as u32;
-    while i < end {
-        let from = i as usize;
-        let w = bson::document(&s[from..], at + i, elements);
-        match w {
-            Walk::Past { size, count: more } => {
-                i += size as u32;
-                number = 1 + number;
-                elements = more;
-            }
-            Walk::Refused { number: n, place } => {
-                return Counted::Refused { number: n, place };
-            }
-        }
+    // A turn passes what its document takes, so there is no range for a `for` to go over.
+    while i < s.len() {
+        let passed = bson::document(&s[i..], at + i as u32, elements)?;
+        i += passed.size;
+        documents += 1;
+        elements = passed.count;
     }
-    Counted::Past {
-        documents: number,
+    Ok(Counted {
+        documents,
         elements,
-    }
+    })
 }

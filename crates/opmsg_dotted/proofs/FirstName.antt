@@ -7,10 +7,9 @@ use mathlib.Core.List.{List, [], ◌∷◌, ◌++◌, append-nil}
 use native.Mathlib.Numerals.{add-one}
 use native.Mathlib.Omega.{arith}
 use lib.ListN.{length, get_or, take, drop, length-take, drop_of_length-le}
-use lib.Seq.{drop-cons, length-take-le, get_or-drop}
+use lib.Seq.{drop-cons, length-take-le, get_or-drop, get_or-take}
 use lib.Dec.{ltb, eqb}
-use borrow.Author.Tests.{ltb-true, ltb-false, eqb-true, eq-eqb, ne_eqb}
-use Rattle.wire.proofs.Parts.{rest_part}
+use borrow.Author.Tests.{ltb-true, ltb-false, eqb-true, eqb-false, eq-eqb, ne_eqb}
 use Rattle.opmsg.specs.Names.{same_text}
 use Rattle.opmsg.specs.Dotted.{until_dot}
 use Rattle.opmsg_dotted.specs.Inner.{Undotted}
@@ -79,15 +78,15 @@ pub no_dots : (text : List ℕ) → Undotted (length text) text → until_dot te
 no_dots text w = unfold until_dot in omega (arith, rw (append-nil text) at (plain_dots text [] w))
 
 -- some at the start, and some of the part `&xs[m..]` that begins among them or where they end
-pub undotted_part : (i m n : ℕ) (xs : List ℕ) → m ≤ i → Undotted i xs → Undotted n (take (length xs - m) (drop m xs)) → Undotted (m + n) xs
-undotted_part i m n xs l a b j h = go (ltb j i) refl
+pub undotted_part : (i m n k : ℕ) (xs : List ℕ) → m ≤ i → n ≤ k → Undotted i xs → Undotted n (take k (drop m xs)) → Undotted (m + n) xs
+undotted_part i m n k xs l f a b j h = go (ltb j i) refl
   where
     go : (t : Bool) → ltb j i ≡ t → get_or xs j 0 ≡ 0x2E → ⊥
     go true t e = a j (ltb-true j i t) e
     go false t e =
         let past = ltb-false j i t in
         let place : m + (j - m) ≡ j = omega arith in
-        b (j - m) (omega arith) (rw (rest_part m xs, get_or-drop, place) e)
+        b (j - m) (omega arith) (rw (get_or-take k (drop m xs) (j - m) 0 (omega arith), get_or-drop, place) e)
 
 -- ---- the first name of a text and a name, from place i on
 
@@ -124,6 +123,13 @@ module _ (text name : List ℕ) (i : ℕ) where
 
     pub alike_dot : get_or text i 0 ≡ 0x2E → alike ≡ false
     alike_dot e = rw (drop-cons text i 0 h, drop-cons name i 0 k) (same_dot _ _ _ _ (eq-eqb _ _ e))
+
+    pub alike_no_more : (get_or text i 0 ≡ get_or name i 0 → get_or text i 0 ≡ 0x2E) → alike ≡ false
+    alike_no_more e = go (eqb (get_or text i 0) (get_or name i 0)) refl
+      where
+        go : (b : Bool) → eqb (get_or text i 0) (get_or name i 0) ≡ b → alike ≡ false
+        go true s = alike_dot (e (eqb-true _ _ s))
+        go false s = alike_other (λ same. absurd (omega (arith, eqb-false _ _ s)))
 
     pub alike_more : get_or text i 0 ≡ get_or name i 0 → (get_or text i 0 ≡ 0x2E → ⊥) → alike ≡ same_text (first_name (drop (i + 1) text)) (drop (i + 1) name)
     alike_more e d = rw (add-one, drop-cons text i 0 h, drop-cons name i 0 k) (same_more _ _ _ _ (ne_eqb _ _ d) e)

@@ -1,7 +1,7 @@
 // Dotted texts: parted at its dots, a text leads from elements into the documents among them, and on to a name.
 #![tactic(auto)]
 
-ghost use Rattle.std.specs.Prelude.{true, ◌≡◌, ◌+◌, ◌<◌, ◌≤◌, length, take, drop};
+ghost use Rattle.std.specs.Prelude.{true, false, ◌≡◌, ◌+◌, ◌<◌, ◌≤◌, length, take, drop};
 ghost use Rattle.opmsg.specs.Names.{same_text};
 ghost use Rattle.opmsg.specs.Dotted.{until_dot, elements_within, found};
 ghost use Rattle.opmsg.specs.Inner.{Filled};
@@ -16,7 +16,8 @@ const DOT: u8 = 0x2E;
 // The type of an element whose value is a document.
 const DOCUMENT: u8 = 0x03;
 
-// How many bytes of a text stand before its first dot; all where there is none.
+// How many bytes of a text stand before its first dot; all where there is none. Tried by `position`: the bench's nested-latin-3 then took 4,384
+// instructions and not 4,256; and `undotted` of a short text by `all`: 4,386.
 pub fn until_dot(text: &[u8]) -> usize
     ensures { result ≡ until_dot text.now }
 {
@@ -27,82 +28,69 @@ pub fn until_dot(text: &[u8]) -> usize
     i
 }
 
-// 0 where a byte is no dot; else 1.
-fn dot(x: u8) -> u8
-    ensures { result ≡ 0 → x ≡ 0x2E → ⊥ }
+// None of a block's bytes is a dot. No test hangs on another, so many are made at once.
+fn clear(block: &[u8]) -> bool
+    ensures { result ≡ true → Undotted (length block.now) block.now }
 {
-    if x == DOT { 1 } else { 0 }
-}
-
-// None of the first n bytes is a dot. No test hangs on another, so many are made at once.
-fn clear(s: &[u8], n: usize) -> bool
-    requires { n ≤ length s.now }
-    ensures { result ≡ true → Undotted n s.now }
-{
-    let mut all: u8 = 0;
-    let mut k = 0;
-    while k < n {
-        all = all | dot(s[k]);
-        k += 1;
+    let mut any = false;
+    for b in block {
+        any |= *b == DOT;
     }
-    all == 0
+    !any
 }
 
-// None of a text's bytes is, by n at a time: the last n of them may have been among those before.
+// None of a text's bytes is, by n at a time: the last n of them may have been among those before. Tried as a `for` over chunks_exact: 44 instructions
+// instead of 35 on texts of 9 bytes, of which the bench has many; and as contains: 48.
 fn clear_by(text: &[u8], n: usize) -> bool
     requires { (0 < n) × (n ≤ length text.now) }
     ensures { result ≡ true → Undotted (length text.now) text.now }
 {
-    let mut i: usize = 0;
+    let mut i = 0;
     while n <= text.len() - i {
-        if !clear(&text[i..], n) {
+        if !clear(&text[i..i + n]) {
             return false;
         }
         i += n;
     }
-    let last = text.len() - n;
-    clear(&text[last..], n)
+    clear(&text[text.len() - n..])
 }
 
 // A text has no dot: most have none, and this tells it sooner than until_dot, which is to be asked where the answer is no.
+#[tactic(auto, using(crate::proofs::FirstName::no_dots))]
 pub fn undotted(text: &[u8]) -> bool
     ensures { result ≡ true → until_dot text.now ≡ length text.now }
 {
-    if text.len() < 4 {
-        return until_dot(text) == text.len();
+    match text.len() {
+        0..=3 => until_dot(text) == text.len(),
+        4..=7 => clear_by(text, 4),
+        8..=15 => clear_by(text, 8),
+        _ => clear_by(text, 16),
     }
-    if text.len() < 8 {
-        return clear_by(text, 4);
-    }
-    if text.len() < 16 {
-        return clear_by(text, 8);
-    }
-    clear_by(text, 16)
 }
 
-// A name is the first one of a text. What this costs goes by the name: one long text may be held against thousands of short names.
+// A byte of a text goes on with a name's byte: they are the same, and no dot.
+fn within_name(x: u8, y: u8) -> bool
+    ensures goes_on { result ≡ true → (x ≡ y) × (x ≡ 0x2E → ⊥) }
+    ensures ends { result ≡ false → x ≡ y → x ≡ 0x2E }
+{
+    x == y && x != DOT
+}
+
+// A name is the first one of a text. What this costs goes by the name: one long text may be held against thousands of short names. Tried as starts_with
+// and contains: 42 instructions instead of 37 where the first bytes differ, as they mostly do; as zip and all: 39.
 fn leads(text: &[u8], name: &[u8]) -> bool
     ensures { result ≡ same_text (take (until_dot text.now) text.now) name.now }
 {
-    if text.len() < name.len() {
+    let n = name.len();
+    if text.len() < n {
         return false;
     }
-    let mut i: usize = 0;
-    while i < name.len() {
-        let byte = text[i];
-        if byte != name[i] {
+    for i in 0..n {
+        if !within_name(text[i], name[i]) {
             return false;
         }
-        if byte == DOT {
-            return false;
-        }
-        i += 1;
     }
-    if i == text.len() {
-        true
-    } else {
-        text[i] == DOT
-    }
+    n == text.len() || text[n] == DOT
 }
 
 // The elements of the document that is the value of the element at a place, which was read and whose name has n bytes.
@@ -114,11 +102,12 @@ fn within(xs: &[u8], place: usize, n: usize) -> &[u8]
     let start = n + 2;
     let document = &element[start..];
     let size = word(document) as usize;
-    let inner = if size < 5 { 0 } else { size - 5 };
+    let inner = size.saturating_sub(5);
     stretch(document, 4, inner)
 }
 
-// The last name of a text is found, from the elements xs on: each call is one name and one document deeper.
+// The last name of a text is found, from the elements xs on: each call is one name and one document deeper. Elements differ in length, so no `for`
+// counts them.
 pub fn found(xs: &[u8], text: &[u8]) -> bool
     requires { Filled xs.now }
     ensures { result ≡ found xs.now text.now }

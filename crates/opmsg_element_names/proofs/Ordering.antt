@@ -163,3 +163,16 @@ module _ (a l : List ℕ) (without : WithoutZero a) where
         go false e =
             let p = ltb-false i (until_zero l) e in
             ext_get_or 0 a (front l) (omega (arith, front_length l, g.within, g.inside)) (λ k n. keys i g k (omega arith))
+
+-- where the text has ended, the byte of the name decides
+module _ (a l : List ℕ) (without : WithoutZero a) (i : ℕ) (g : Agreed a l i) (h : length a ≤ i) where
+  pub name_goes_on : 0 < get_or l i 0 → Less a (take (until_zero l) l)
+  name_goes_on k = let e = get_or-eq_default a 0 {n = i} h in agreed_before a l without i g (omega (arith, e))
+
+  pub name_ends : get_or l i 0 < 1 → a ≡ take (until_zero l) l
+  name_ends k = agreed_all a l without i g h (omega arith)
+
+  pub bytes_end : length l ≤ i → a ≡ take (until_zero l) l
+  bytes_end k = agreed_all a l without i g h (get_or-eq_default l 0 {n = i} k)
+
+pub ruleset text_ended = (name_goes_on, name_ends)

@@ -4,8 +4,7 @@ use Rattle.std.specs.Prelude.{ℕ, zero, suc, ◌+◌, ◌-◌, ◌<◌, ◌≤�
 use Rattle.wire.specs.Bytes.{word, until_zero}
 use Rattle.bson_elements.specs.Element.{element_size}
 use Rattle.opmsg.specs.Names.{name_text}
-use Rattle.opmsg_element_names.specs.declared.Order.{Order}
-use Rattle.opmsg_element_names.specs.declared.Order.TheVariants.{Before, Same, After}
+use Rattle.std.specs.declared.cmp.Ordering.{Ordering}
 
 -- ---- names
 
@@ -35,10 +34,10 @@ pub record Less (a b : List ℕ) : Type 0 where
   pub same : (i : ℕ) → i < place → key a i ≡ key b i
   pub below : key a place < key b place
 
-abbrev pub Ordered : List ℕ → List ℕ → Order → Type 0
-Ordered a b Before = Less a b
-Ordered a b Same = a ≡ b
-Ordered a b After = Less b a
+abbrev pub Ordered : List ℕ → List ℕ → Ordering → Type 0
+Ordered a b Ordering.Less = Less a b
+Ordered a b Ordering.Equal = a ≡ b
+Ordered a b Ordering.Greater = Less b a
 
 -- ---- which name is the first that stands there again
 

@@ -7,15 +7,8 @@ ghost use Rattle.bson_elements.specs.Element.{element_size};
 ghost use Rattle.opmsg_element_names.specs.Inner.{Read, WithoutZero, text_at, last_word, Ordered};
 
 use bson_skip::element_size;
+use std::cmp::Ordering;
 use wire::{until_zero, word};
-
-// Which of two texts comes first.
-#[derive(Drop)]
-pub enum Order {
-    Before,
-    Same,
-    After,
-}
 
 // The words at the ends of a text.
 #[derive(Drop)]
@@ -48,6 +41,7 @@ pub fn next(xs: &[u8], place: usize, n: usize) -> usize
 pub fn end_words(text: &[u8]) -> Words
     ensures { (result.first ≡ word text.now) × (result.last ≡ last_word text.now) }
 {
+    // Tested before a word is read, which then needs no test of its own: some 20 instructions less for each name.
     if text.len() < 4 {
         let all = word(text);
         return Words {
@@ -55,10 +49,9 @@ pub fn end_words(text: &[u8]) -> Words
             last: all,
         };
     }
-    let start = text.len() - 4;
     Words {
         first: word(text),
-        last: word(&text[start..]),
+        last: word(&text[text.len() - 4..]),
     }
 }
 
@@ -67,48 +60,42 @@ fn common(a: &[u8], b: &[u8]) -> usize
     ensures within { (result ≤ length a.now) × (result ≤ length b.now) }
     ensures same { (k : ℕ) → k < result → get_or a.now k 0 ≡ get_or b.now k 0 }
 {
-    let mut i: usize = 0;
-    while 4 <= a.len() - i {
-        if b.len() - i < 4 {
-            return i;
-        }
+    let words = a.len().min(b.len()) / 4;
+    for k in 0..words {
+        let i = 4 * k;
         if word(&a[i..]) != word(&b[i..]) {
             return i;
         }
-        i += 4;
     }
-    i
+    4 * words
 }
 
 // Which comes first, a text or the name that the bytes begin with: that with the lower byte where they first differ.
-fn compare(text: &[u8], bytes: &[u8]) -> Order
+#[tactic(auto, using(crate::proofs::Ordering::text_ended))]
+fn compare(text: &[u8], bytes: &[u8]) -> Ordering
     requires { WithoutZero text.now }
     ensures { Ordered text.now (take (until_zero bytes.now) bytes.now) result }
 {
-    let mut i = common(text, bytes);
-    while i < text.len() {
-        if bytes.len() <= i {
-            return Order::After;
+    let n = text.len();
+    for i in common(text, bytes)..n {
+        if bytes.len() <= i || bytes[i] < text[i] {
+            return Ordering::Greater;
         }
         if text[i] < bytes[i] {
-            return Order::Before;
+            return Ordering::Less;
         }
-        if bytes[i] < text[i] {
-            return Order::After;
-        }
-        i += 1;
     }
-    if bytes.len() <= i {
-        return Order::Same;
+    if bytes.len() <= n {
+        return Ordering::Equal;
     }
-    if 0 < bytes[i] {
-        return Order::Before;
+    if 0 < bytes[n] {
+        return Ordering::Less;
     }
-    Order::Same
+    Ordering::Equal
 }
 
 // A text beside the name of the element at a place.
-pub fn against(xs: &[u8], place: usize, text: &[u8]) -> Order
+pub fn against(xs: &[u8], place: usize, text: &[u8]) -> Ordering
     requires { (place < length xs.now) × WithoutZero text.now }
     ensures { Ordered text.now (text_at xs.now place) result }
 {

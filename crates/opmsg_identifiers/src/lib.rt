@@ -1,11 +1,11 @@
 // Names of elements and identifiers of sequences, by what is kept of the sections.
 #![tactic(auto)]
 
-ghost use Rattle.std.specs.Prelude.{false, ◌||◌, List, ◌≡◌, ℕ, ◌+◌, ◌-◌, ◌^◌, ◌<◌, ◌≤◌};
+ghost use Rattle.std.specs.Prelude.{false, ◌||◌, List, map, ◌≡◌, ℕ, ◌+◌, ◌-◌, ◌^◌, ◌<◌, ◌≤◌};
 ghost use Rattle.opmsg.specs.Names.{among, part, texts, identifiers, names_of};
 ghost use Rattle.opmsg.specs.Dotted.{found};
 ghost use Rattle.opmsg.specs.declared.Section.{Section};
-ghost use Rattle.opmsg.specs.Inner.{clashes, first_sections, Shows, Filled};
+ghost use Rattle.opmsg.specs.Inner.{clashes, Shows, Filled};
 ghost use Rattle.opmsg_body_names.specs.Inner.{Marks};
 
 use opmsg::{Entry, Range, Section};
@@ -14,11 +14,11 @@ use opmsg_dotted::{found, until_dot};
 use wire::stretch;
 
 // n bytes from a place of the message on, or those of them that there are; xs are the bytes from 20 on.
+#[tactic(auto, unfolding(opmsg::specs::Names::part))]
 fn part(xs: &[u8], place: usize, n: usize) -> &[u8]
     ensures { result.now ≡ part xs.now place n }
 {
-    let start = if place < 20 { 0 } else { place - 20 };
-    stretch(xs, start, n)
+    stretch(xs, place.saturating_sub(20), n)
 }
 
 // A text at a range of the message.
@@ -28,34 +28,26 @@ pub fn at_range(xs: &[u8], range: Range) -> &[u8]
     part(xs, range.start as usize, range.length as usize)
 }
 
-// A text is the identifier of a sequence among the first k entries.
-fn identified(xs: &[u8], entries: [Entry; 17], k: usize, text: &[u8]) -> bool
-    requires { k ≤ 17 }
-    ensures { result ≡ among (texts (identifiers xs.now (first_sections k entries))) text.now }
+// A text is the identifier of a sequence among entries.
+fn identified(xs: &[u8], entries: &[Entry], text: &[u8]) -> bool
+    ensures { result ≡ among (texts (identifiers xs.now (map (λ x. x.section) entries.now))) text.now }
 {
-    let mut i: usize = 0;
-    while i < k {
-        let entry = entries[i];
-        let section = entry.section;
-        if let Section::Sequence { identifier, .. } = section {
+    for entry in entries {
+        if let Section::Sequence { identifier, .. } = entry.section {
             if same(text, at_range(xs, identifier)) {
                 return true;
             }
         }
-        i += 1;
     }
     false
 }
 
-// A text is a name of the elements or the identifier of a sequence among the first k entries.
-pub fn met(xs: &[u8], elements: &[u8], entries: [Entry; 17], k: usize, text: &[u8]) -> bool
-    requires { (k ≤ 17) × Filled elements.now }
-    ensures { result ≡ (among (names_of elements.now) text.now || among (texts (identifiers xs.now (first_sections k entries))) text.now) }
+// A text is a name of the elements or the identifier of a sequence among entries.
+pub fn met(xs: &[u8], elements: &[u8], entries: &[Entry], text: &[u8]) -> bool
+    requires { Filled elements.now }
+    ensures { result ≡ (among (names_of elements.now) text.now || among (texts (identifiers xs.now (map (λ x. x.section) entries.now))) text.now) }
 {
-    if named(elements, elements.len(), text) {
-        return true;
-    }
-    identified(xs, entries, k, text)
+    named(elements, elements.len(), text) || identified(xs, entries, text)
 }
 
 // A text that is no name of the elements leads to a name within them: it has a dot, and is followed.
@@ -78,10 +70,7 @@ pub fn reaches(elements: &[u8], marks: &[u64; 32], text: &[u8]) -> bool
     if n == text.len() {
         return false;
     }
-    if is_marked(marks, &text[..n]) {
-        return found(elements, text);
-    }
-    false
+    is_marked(marks, &text[..n]) && found(elements, text)
 }
 
 // The elements of the body.
@@ -89,10 +78,7 @@ pub fn elements(xs: &[u8], body: usize, body_length: usize) -> &[u8]
     requires { body < 2 ^ 32 }
     ensures { result.now ≡ part xs.now (body + 4) (body_length - 5) }
 {
-    if body_length < 5 {
-        return part(xs, body + 4, 0);
-    }
-    part(xs, body + 4, body_length - 5)
+    part(xs, body + 4, body_length.saturating_sub(5))
 }
 
 // A text is one of the body's names or of the identifiers, or leads to a name in the body.
@@ -109,7 +95,7 @@ pub fn taken(
         → result ≡ clashes xs.now qs text.now }
 {
     let content = elements(xs, body, body_length);
-    if met(xs, content, entries, used, text) {
+    if met(xs, content, &entries[..used], text) {
         return true;
     }
     followed(content, text)

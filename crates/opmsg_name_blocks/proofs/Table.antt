@@ -3,9 +3,10 @@
 use Prim.Native.Nat.{ℕ, ◌+◌, ◌-◌, ◌<◌, ◌≤◌}
 use mathlib.Core.Bool.{Bool, true, false}
 use mathlib.Core.List.{List}
-use mathlib.Core.Path.{◌≡◌, refl, ◌∙◌}
+use mathlib.Core.Path.{◌≡◌, refl, ap, ◌∙◌}
+use Rattle.std.specs.List.{CopiedTo, SameBelow}
 use native.Mathlib.Omega.{arith}
-use lib.ListN.{length, get_or, set, length-set}
+use lib.ListN.{length, get_or, set}
 use lib.Seq.{get_or-set_same, get_or-set_other}
 use lib.Dec.{eqb}
 use borrow.Author.Tests.{eqb-true, eqb-false}
@@ -13,48 +14,16 @@ use Rattle.opmsg_element_names.specs.Inner.{Less}
 use Rattle.opmsg_name_blocks.specs.Inner.{entry, Sorted, Between, Inserted}
 use Rattle.opmsg_element_names.proofs.Ordering.{less_trans}
 
--- ---- an entry is put in: those from place j on stand one place further
-
-pub record Shifted (old : List ℕ) (m i : ℕ) (table : List ℕ) (j : ℕ) : Type 0 where
-  pub size : length table ≡ length old
-  pub from : i ≤ j
-  pub to : j ≤ m
-  pub room : m < length old
-  pub low : (k : ℕ) → k ≤ j → get_or table k 0 ≡ get_or old k 0
-  pub high : (k : ℕ) → j ≤ k → k < m → get_or table (k + 1) 0 ≡ get_or old k 0
-
-pub shifted_none : (old : List ℕ) (m i : ℕ) → i ≤ m → m < length old → Shifted old m i old m
-shifted_none old m i h r = record { size = refl; from = h; to = omega arith; room = r; low = λ k l. refl; high = λ k l n. absurd (omega arith) }
-
-module _ (old : List ℕ) (m i : ℕ) (table : List ℕ) (j : ℕ) (s : Shifted old m i table j) where
-  pub shifted_more : i < j → Shifted old m i (set table j (get_or table (j - 1) 0)) (j - 1)
-  shifted_more h = record {
-    size = length-set table j _ ∙ s.size;
-    from = omega arith;
-    to = omega (arith, s.to);
-    room = s.room;
-    low = λ k l. get_or-set_other table j k _ 0 (λ e. omega arith) ∙ s.low k (omega arith);
-    high = λ k l n. go k l n (eqb (k + 1) j) refl;
-  }
-    where
-      go : (k : ℕ) → j - 1 ≤ k → k < m → (t : Bool) → eqb (k + 1) j ≡ t → get_or (set table j (get_or table (j - 1) 0)) (k + 1) 0 ≡ get_or old k 0
-      go k l n true e =
-          let p : k + 1 ≡ j = eqb-true (k + 1) j e in
-          let q : j - 1 ≡ k = omega arith in
-          rw (p, get_or-set_same table j (get_or table (j - 1) 0) 0 (omega (arith, s.size, s.to, s.room)), q) (s.low k (omega arith))
-      go k l n false e =
-          let p = eqb-false (k + 1) j e in
-          get_or-set_other table j (k + 1) _ 0 p ∙ s.high k (omega arith) n
-
-  pub shifted_all : j ≤ i → (p : ℕ) → (length (set table i p) ≡ length old) × Inserted old m i p (set table i p)
-  shifted_all h p = (
-    length-set table i p ∙ s.size,
-    record {
-      under = λ k l. get_or-set_other table i k p 0 (λ e. omega arith) ∙ s.low k (omega (arith, s.from));
-      there = get_or-set_same table i p 0 (omega (arith, s.size, s.from, s.to, s.room));
-      over = λ k l n. get_or-set_other table i (k + 1) p 0 (λ e. omega arith) ∙ s.high k (omega arith) n;
-    },
-  )
+-- an entry is put in: those from place i on stand one place further
+pub put_in : (old moved : List ℕ) (m i p : ℕ) → i ≤ m → m < length old → length moved ≡ length old
+    → CopiedTo old moved i (i + 1) (m - i) → SameBelow old moved (i + 1) → Inserted old m i p (set moved i p)
+put_in old moved m i p h r l c b = record {
+  under = λ k n. get_or-set_other moved i k p 0 (λ e. omega arith) ∙ b k 0 (omega arith);
+  there = get_or-set_same moved i p 0 (omega arith);
+  over = λ k n o.
+      let e : i + (k + 1 - (i + 1)) ≡ k = omega arith in
+      get_or-set_other moved i (k + 1) p 0 (λ e. omega arith) ∙ c (k + 1) 0 (omega arith) (omega arith) ∙ ap (λ (j : ℕ). get_or old j 0) e;
+}
 
 -- ---- a text is looked up: the entries before place `low` come before it, and those from place `high` on after it
 

@@ -1,9 +1,7 @@
 -- Tables of places that are sorted by the names there.
 -- Assumes nothing: these are definitions.
-use Rattle.std.specs.Prelude.{ℕ, ◌+◌, ◌<◌, ◌≤◌, List, ◌≡◌, length, get_or}
+use Rattle.std.specs.Prelude.{ℕ, ◌+◌, ◌<◌, ◌≤◌, List, ◌≡◌, length, get_or, Option, None, Some}
 use Rattle.opmsg_element_names.specs.Inner.{Less, text_at, start_of, name_of, Again}
-use Rattle.opmsg_name_blocks.specs.declared.Search.{Search}
-use Rattle.opmsg_name_blocks.specs.declared.Search.TheVariants.{Seen, Insert}
 
 -- the name at place j of a table
 abbrev pub entry : List ℕ → List ℕ → ℕ → List ℕ
@@ -27,9 +25,10 @@ pub record Entered (xs table : List ℕ) (m : ℕ) (text : List ℕ) : Type 0 wh
   pub within : at < m
   pub same : text ≡ entry xs table at
 
-abbrev pub Looked : List ℕ → List ℕ → ℕ → List ℕ → Search → Type 0
-Looked xs table m text Seen = Entered xs table m text
-Looked xs table m text (Insert i) = Between xs table m text i
+-- a text was looked up: it is there, or where it belongs
+abbrev pub Looked : List ℕ → List ℕ → ℕ → List ℕ → Option ℕ → Type 0
+Looked xs table m text None = Entered xs table m text
+Looked xs table m text (Some i) = Between xs table m text i
 
 -- a table with p at place i, and those of the first m entries that stood from there on one place further
 pub record Inserted (old : List ℕ) (m i p : ℕ) (new : List ℕ) : Type 0 where

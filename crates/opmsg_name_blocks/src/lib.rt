@@ -6,53 +6,37 @@ ghost use Rattle.opmsg.specs.Inner.{Filled};
 ghost use Rattle.opmsg_element_names.specs.Inner.{WithoutZero, First};
 ghost use Rattle.opmsg_name_blocks.specs.Inner.{Sorted, Looked, Inserted, Cleared};
 
-use opmsg_element_names::{Order, against, name, next};
+use opmsg_element_names::{against, name, next};
+use std::cmp::Ordering;
 
-// What looking a text up finds: it is there, or where it belongs.
-#[derive(Drop)]
-pub enum Search {
-    Seen,
-    Insert(usize),
-}
-
-// Looks a text up among the names at the first m places of a table.
-fn find(xs: &[u8], table: &[u32], m: usize, text: &[u8]) -> Search
+// Where a text belongs among the names at the first m places of a table, or none where it is there.
+fn find(xs: &[u8], table: &[u32], m: usize, text: &[u8]) -> Option<usize>
     requires { Sorted xs.now table.now m × (length xs.now < 2 ^ 32) × WithoutZero text.now }
     ensures { Looked xs.now table.now m text.now result }
 {
     let mut low: usize = 0;
     let mut high = m;
+    // A turn halves what is left; binary_search_by would ask for a test of any number, and a name is read at places in xs alone.
     while low < high {
         let middle = low + (high - low) / 2;
         let place = table[middle] as usize;
-        let order = against(xs, place, text);
-        match order {
-            Order::Before => {
-                high = middle;
-            }
-            Order::Same => {
-                return Search::Seen;
-            }
-            Order::After => {
-                low = middle + 1;
-            }
+        match against(xs, place, text) {
+            Ordering::Less => high = middle,
+            Ordering::Equal => return None,
+            Ordering::Greater => low = middle + 1,
         }
     }
-    Search::Insert(low)
+    Some(low)
 }
 
 // Puts a place into a table, before those of the first m entries that stand from i on.
+#[tactic(auto, using(crate::proofs::Table::put_in))]
 fn insert(table: &mut [u32], m: usize, i: usize, place: u32)
     requires { (i ≤ m) × (m < length table.old) }
     ensures size { length table.new ≡ length table.old }
     ensures puts { Inserted table.old m i place table.new }
 {
-    let mut j = m;
-    while i < j {
-        let moved = table[j - 1];
-        table[j] = moved;
-        j -= 1;
-    }
+    table.copy_within(i..m, i + 1);
     table[i] = place;
 }
 
@@ -72,10 +56,10 @@ fn block(xs: &[u8], table: &mut [u32], s: usize, bound: usize) -> Left
     let mut m: usize = 0;
     let mut i = s;
     let mut resume = s;
+    // A turn passes what its element takes, so there is no range for a `for` to go over.
     while i < bound {
         let text = name(xs, i);
-        let found = find(xs, table, m, text);
-        let Search::Insert(k) = found else {
+        let Some(k) = find(xs, table, m, text) else {
             return Left {
                 next: resume,
                 bound: i,
@@ -102,6 +86,7 @@ pub fn by_blocks(xs: &[u8], table: &mut [u32]) -> usize
 {
     let mut s: usize = 0;
     let mut bound = xs.len();
+    // A turn passes a block, so there is no range for a `for` to go over.
     while s < bound {
         let b = block(xs, table, s, bound);
         s = b.next;

@@ -1,13 +1,11 @@
 -- Slots that hold places: each holds zero, or one more than the place of a name, not far behind where the name belongs.
 -- Assumes nothing: these are definitions.
-use Rattle.std.specs.Prelude.{ℕ, ◌+◌, ◌-◌, ◌*◌, ◌/◌, ◌%◌, ◌<◌, ◌≤◌, List, ◌≡◌, length, get_or, drop}
+use Rattle.std.specs.Prelude.{ℕ, ◌+◌, ◌-◌, ◌*◌, ◌/◌, ◌%◌, ◌<◌, ◌≤◌, List, ◌≡◌, length, get_or, drop, Option, None, Some}
 use Rattle.std.specs.Int.Bits.{bit_and}
 use Rattle.wire.specs.Bytes.{word}
 use Rattle.opmsg_element_names.specs.Inner.{text_at, last_word, First}
 use Rattle.opmsg_name_slots.specs.declared.Probe.{Probe}
 use Rattle.opmsg_name_slots.specs.declared.Probe.TheVariants.{Known, Open, Crowd}
-use Rattle.opmsg_name_slots.specs.declared.Tried.{Tried}
-use Rattle.opmsg_name_slots.specs.declared.Tried.TheVariants.{Place, Crowded}
 
 -- how far on from their own slot names may stand
 abbrev pub reach : ℕ
@@ -50,6 +48,7 @@ Probed xs slots text start Known = SlotHolds xs slots text
 Probed xs slots text start (Open j) = Free xs slots text start j
 Probed xs slots text start Crowd = Unit {0}
 
-abbrev pub Attempt : List ℕ → Tried → Type 0
-Attempt xs (Place p) = First xs p
-Attempt xs Crowded = Unit {0}
+-- what comes of slots: the answer, or none where they are crowded
+abbrev pub Attempt : List ℕ → Option ℕ → Type 0
+Attempt xs (Some p) = First xs p
+Attempt xs None = Unit {0}

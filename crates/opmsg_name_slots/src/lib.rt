@@ -1,12 +1,12 @@
 // Check 23 by slots that a name's bytes lead to.
 #![tactic(auto)]
 
-ghost use Rattle.std.specs.Prelude.{true, false, ◌≡◌, ℕ, ◌+◌, ◌^◌, ◌<◌, ◌≤◌, length, get_or};
+ghost use Rattle.std.specs.Prelude.{◌≡◌, ℕ, ◌+◌, ◌^◌, ◌<◌, ◌≤◌, length, get_or};
 ghost use Rattle.opmsg.specs.Inner.{Filled};
-ghost use Rattle.opmsg_element_names.specs.Inner.{WithoutZero, text_at};
+ghost use Rattle.opmsg_element_names.specs.Inner.{WithoutZero};
 ghost use Rattle.opmsg_name_slots.specs.Inner.{Blank, reach, mixed, hash_of, home_of, Probed, Attempt};
 
-use opmsg_element_names::{Order, against, end_words, name, next};
+use opmsg_element_names::{against, end_words, name, next};
 use wire::word;
 
 // How far on from their own slot names may stand.
@@ -18,13 +18,6 @@ pub enum Probe {
     Known,
     Open(usize),
     Crowd,
-}
-
-// What comes of slots: the answer, or too many names that stand behind others.
-#[derive(Drop)]
-pub enum Tried {
-    Place(usize),
-    Crowded,
 }
 
 // A number made of a text's length and words.
@@ -44,6 +37,7 @@ fn hash(text: &[u8]) -> usize
 }
 
 // The slot where a text belongs, of so many.
+#[tactic(auto, unfolding(crate::specs::Inner::home_of))]
 fn home(slots: usize, text: &[u8]) -> usize
     requires { reach < slots }
     ensures { result ≡ home_of slots text.now }
@@ -51,61 +45,41 @@ fn home(slots: usize, text: &[u8]) -> usize
     hash(text) & (slots - REACH - 1)
 }
 
-// A text is the name of the element at a place.
-fn is_name(xs: &[u8], place: usize, text: &[u8]) -> bool
-    requires { (place < length xs.now) × WithoutZero text.now }
-    ensures yes { result ≡ true → text.now ≡ text_at xs.now place }
-    ensures no { result ≡ false → text.now ≡ text_at xs.now place → ⊥ }
-{
-    let order = against(xs, place, text);
-    match order {
-        Order::Before => false,
-        Order::Same => true,
-        Order::After => false,
-    }
-}
-
 // Looks a text up in the slots from where it belongs.
 fn look(xs: &[u8], slots: &[u32], start: usize, text: &[u8]) -> Probe
     requires { ((j : ℕ) → get_or slots.now j 0 ≤ length xs.now) × (start + reach ≤ length slots.now) × (length xs.now < 2 ^ 32) × WithoutZero text.now }
     ensures { Probed xs.now slots.now text.now start result }
 {
-    let mut j = start;
-    while j < start + REACH {
+    for j in start..start + REACH {
         let entry = slots[j] as usize;
         if entry == 0 {
             return Probe::Open(j);
         }
-        if is_name(xs, entry - 1, text) {
+        if against(xs, entry - 1, text).is_eq() {
             return Probe::Known;
         }
-        j += 1;
     }
     Probe::Crowd
 }
 
 // The place of the first element whose name is an earlier one's, or the end: by slots, while names stand at most so many steps behind
-// where they belong, all together.
-pub fn by_slots(xs: &[u8], slots: &mut [u32], steps: usize) -> Tried
+// where they belong, all together; none where they stand further.
+pub fn by_slots(xs: &[u8], slots: &mut [u32], steps: usize) -> Option<usize>
     requires { Filled xs.now × (length xs.now < 2 ^ 32) × Blank slots.old × (reach < length slots.old) }
     ensures { Attempt xs.now result }
 {
     let mut left = steps;
     let mut i: usize = 0;
+    // A turn passes what its element takes, so there is no range for a `for` to go over.
     while i < xs.len() {
         let text = name(xs, i);
         let start = home(slots.len(), text);
-        let found = look(xs, slots, start, text);
-        match found {
-            Probe::Known => {
-                return Tried::Place(i);
-            }
-            Probe::Crowd => {
-                return Tried::Crowded;
-            }
+        match look(xs, slots, start, text) {
+            Probe::Known => return Some(i),
+            Probe::Crowd => return None,
             Probe::Open(j) => {
                 if left < j - start {
-                    return Tried::Crowded;
+                    return None;
                 }
                 left -= j - start;
                 slots[j] = (i + 1) as u32;
@@ -113,7 +87,7 @@ pub fn by_slots(xs: &[u8], slots: &mut [u32], steps: usize) -> Tried
             }
         }
     }
-    Tried::Place(xs.len())
+    Some(xs.len())
 }
 
 // Slots that hold nothing.

@@ -6,7 +6,10 @@ use mathlib.Core.List.{List, [], ◌∷◌, ◌++◌, append-nil}
 use native.Mathlib.Omega.{arith}
 use lib.ListN.{length, take, drop, set, length-append, length-take}
 use lib.Seq.{drop-drop}
-use Rattle.wire.specs.Outcome.{ok, refused}
+use Rattle.std.specs.Prelude.{Result, Ok, Err}
+use Rattle.wire.specs.Outcome.{ok}
+use Rattle.refusal.specs.declared.Refusal.{Refusal}
+use Rattle.refusal.specs.Told.{told}
 use Rattle.wire.specs.Walk.{Step, walk}
 use Rattle.wire.proofs.Parts.{rest_part}
 use Rattle.wire.proofs.Walk.{ends, goes_on, stops}
@@ -90,14 +93,14 @@ module _ {e : Edition} {xs : List ℕ} {i start size : ℕ} {entries : List Entr
   gathered l = k.on ∙ ends (section_at e) 20 (length xs) i xs k.parts k.turns l
 
   -- before it a section is read
-  module _ (more : i < length xs) (r : Part)
+  module _ (more : i < length xs) (r : Result Part Refusal)
       (is : (p : Parts) → PassedNumbers p start number elements → part_of (20 + i) p r ≡ section_at e (20 + i) (take (length xs - i) (drop i xs)) p)
       (reaches : PartWithin (take (length xs - i) (drop i xs)) r) where
     answered : part_of (20 + i) k.parts r ≡ section_at e (20 + i) (take (length xs - i) (drop i xs)) k.parts
     answered = is k.parts (record { start_is = k.shows.start_is; number_is = k.shows.sequences_is; elements_is = k.elements_is })
 
-    pub refuses : {n place : ℕ} → r ≡ Part.Refused n place → walk (section_at e) (length xs) 20 xs nothing ≡ refused n place
-    refuses h = k.on ∙ stops (section_at e) 20 (length xs) i xs k.parts more (omega arith) k.turns k.enough (sym answered ∙ ap (part_of (20 + i) k.parts) h)
+    pub refuses : (f : Refusal) → r ≡ Err f → walk (section_at e) (length xs) 20 xs nothing ≡ told (Err f)
+    refuses f h = k.on ∙ stops (section_at e) 20 (length xs) i xs k.parts more (omega arith) k.turns k.enough (sym answered ∙ ap (part_of (20 + i) k.parts) h)
 
     -- one entry more
     more_entries : (q : Section) → used < max_sections → padded (k.parts.sections ++ (q ∷ [])) ≡ set entries used (record { section = q })
@@ -107,7 +110,7 @@ module _ {e : Edition} {xs : List ℕ} {i start size : ℕ} {entries : List Entr
     more_used q = length-append k.parts.sections (q ∷ []) ∙ ap (λ (m : ℕ). m + 1) k.shows.used_is
 
     -- a body
-    module _ {n c : ℕ} (h : r ≡ Part.Body n c) where
+    module _ {n c : ℕ} (h : r ≡ Ok (Part.Body n c)) where
       body_read : section_at e (20 + i) (take (length xs - i) (drop i xs)) k.parts ≡ ok (record { size = 1 + n; state = record { sections = k.parts.sections ++ (body_at (20 + i) n ∷ []); elements = c } })
       body_read = sym answered ∙ ap (part_of (20 + i) k.parts) h
 
@@ -149,7 +152,7 @@ module _ {e : Edition} {xs : List ℕ} {i start size : ℕ} {entries : List Entr
           }
 
     -- a sequence
-    module _ {m n c : ℕ} {a d : Range} (h : r ≡ Part.Sequenced m n c a d) where
+    module _ {m n c : ℕ} {a d : Range} (h : r ≡ Ok (Part.Sequenced n c m a d)) where
       sequence_read : section_at e (20 + i) (take (length xs - i) (drop i xs)) k.parts ≡ ok (record { size = n; state = record { sections = k.parts.sections ++ (Sequence a d m ∷ []); elements = c } })
       sequence_read = sym answered ∙ ap (part_of (20 + i) k.parts) h
 

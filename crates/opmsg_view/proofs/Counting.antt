@@ -1,76 +1,61 @@
--- The entries of a view from a place on, as loops go through them: how many say sequence, and the first that says body.
+-- The entries of a view: how many say sequence, and the first that says body.
 -- Assumes nothing.
-use Rattle.std.proofs.Common.{◌≡◌, List, length, ◌+◌, ◌<◌, ℕ, inl, inr, rules, arith, refl, sym, ap, ◌∙◌}
+use Rattle.std.proofs.Common.{◌≡◌, List, ◌∷◌, length, ℕ, ◌+◌, ◌<◌, ◌≤◌, Bool, true, false, cond, refl, sym, ap, ◌∙◌, arith}
+use Rattle.std.proofs.lemmas.List.Recursion.{is_count_by}
+use Rattle.std.specs.Prelude.{count_by, map}
 use Rattle.opmsg.specs.Sections.{sequences_of, body_of}
-use Rattle.opmsg.specs.View.{sections_of}
+use Rattle.opmsg.specs.View.{sections_of, sequence_count}
 use Rattle.opmsg.specs.declared.View.{View}
 use Rattle.opmsg.specs.declared.Range.{Range}
 use Rattle.opmsg.specs.declared.Entry.{Entry}
 use Rattle.opmsg.specs.declared.Section.{Section}
 use Rattle.opmsg.specs.declared.Section.TheVariants.{None, Body, Sequence}
-use Rattle.opmsg.proofs.Entries.{NoSequence, NoBody, said_at, said_from, said_next, no_sequence, no_body}
+use Rattle.opmsg.proofs.Entries.{said_at, said_from, said_next, said_end}
 
--- how many of the entries from i on say sequence
-unfoldable pub sequences_from : List Entry → ℕ → ℕ
-sequences_from entries i = length (sequences_of (said_from entries i))
+-- a section says sequence
+abbrev sequence : Section → Bool
+sequence None = false
+sequence (Body range) = false
+sequence (Sequence identifier documents number) = true
+
+abbrev pub is_sequence : Entry → Bool
+is_sequence x = sequence x.section
+
+one_more : (q : Section) (qs : List Section) → length (sequences_of (q ∷ qs)) ≡ cond (sequence q) (1 + length (sequences_of qs)) (length (sequences_of qs))
+unfolding sequences_of
+one_more None qs = refl
+one_more (Body range) qs = refl
+one_more (Sequence identifier documents number) qs = omega arith
+
+pub counted : (v : View) → sequence_count v ≡ count_by is_sequence v.entries
+unfolding sequence_count sections_of sequences_of
+counted v =
+    let says : Entry → Section = λ (x : Entry). x.section in
+    is_count_by (λ xs. length (sequences_of (map says xs))) is_sequence refl (λ x xs. one_more x.section (map says xs)) v.entries
 
 -- the first body that the entries from i on say
 unfoldable pub body_from : List Entry → ℕ → Range
 body_from entries i = body_of (said_from entries i)
 
--- an entry that is no sequence, or no body, as a tag
-pub no_sequence_here : (q : Section) → ((identifier documents : Range) (number : ℕ) → q ≡ Sequence identifier documents number → ⊥) → NoSequence q
-no_sequence_here None h = inl refl
-no_sequence_here (Body range) h = inr refl
-no_sequence_here (Sequence identifier documents number) h = absurd (h identifier documents number refl)
+-- an entry that says no body
+no_body_here : (q : Section) (qs : List Section) → ((range : Range) → q ≡ Body range → ⊥) → body_of (q ∷ qs) ≡ body_of qs
+unfolding body_of
+no_body_here None qs h = refl
+no_body_here (Body range) qs h = absurd (h range refl)
+no_body_here (Sequence identifier documents number) qs h = refl
 
-no_body_here : (q : Section) → ((range : Range) → q ≡ Body range → ⊥) → NoBody q
-no_body_here None h = inl refl
-no_body_here (Body range) h = absurd (h range refl)
-no_body_here (Sequence identifier documents number) h = inr refl
-
-none_differs : (a b : Range) (n : ℕ) → None ≡ Sequence a b n → ⊥
-none_differs a b n e = search rules
-
-body_differs : (r a b : Range) (n : ℕ) → Body r ≡ Sequence a b n → ⊥
-body_differs r a b n e = search rules
-
-counts_one : (entries : List Entry) (i : ℕ) (identifier documents : Range) (number : ℕ)
-    → i < length entries → said_at entries i ≡ Sequence identifier documents number → sequences_from entries i ≡ 1 + sequences_from entries (i + 1)
-unfolding sequences_from sequences_of
-counts_one entries i identifier documents number l e =
-    let next = ap (λ (qs : List Section). length (sequences_of qs)) (said_next entries i l) in
-    omega (arith, rw e at next)
-
-counts_none : (entries : List Entry) (i : ℕ) → i < length entries
-    → ((identifier documents : Range) (number : ℕ) → said_at entries i ≡ Sequence identifier documents number → ⊥)
-    → sequences_from entries i ≡ sequences_from entries (i + 1)
-unfolding sequences_from
-counts_none entries i l h =
-    ap (λ (qs : List Section). length (sequences_of qs)) (said_next entries i l)
-    ∙ ap length (no_sequence (said_at entries i) (said_from entries (i + 1)) (no_sequence_here _ h))
-
-body_found : (entries : List Entry) (i : ℕ) (range : Range) → i < length entries → said_at entries i ≡ Body range → body_from entries i ≡ range
-unfolding body_from body_of
-body_found entries i range l e = ap body_of (said_next entries i l) ∙ rw e refl
-
-pub body_behind : (entries : List Entry) (i : ℕ) → i < length entries → ((range : Range) → said_at entries i ≡ Body range → ⊥) → body_from entries i ≡ body_from entries (i + 1)
+pub behind : (entries : List Entry) (i : ℕ) → i < length entries → ((range : Range) → said_at entries i ≡ Body range → ⊥) → body_from entries i ≡ body_from entries (i + 1)
 unfolding body_from
-body_behind entries i l h = ap body_of (said_next entries i l) ∙ no_body (said_at entries i) _ (no_body_here _ h)
+behind entries i l h = ap body_of (said_next entries i l) ∙ no_body_here _ _ h
 
--- the body that a loop returns
-pub body_returned : (v : View) (i : ℕ) (range : Range) → body_from v.entries 0 ≡ body_from v.entries i → i < length v.entries → said_at v.entries i ≡ Body range → body_of (sections_of v) ≡ range
-unfolding sections_of body_from body_of
-body_returned v i range s l e = s ∙ body_found v.entries i range l e
+-- what a loop returns that has come to entry i
+module _ (v : View) (i : ℕ) (same : body_from v.entries 0 ≡ body_from v.entries i) where
+  pub found : (range : Range) → i < length v.entries → said_at v.entries i ≡ Body range → body_of (sections_of v) ≡ range
+  unfolding sections_of body_from body_of
+  found range l e = same ∙ ap body_of (said_next v.entries i l) ∙ rw e refl
 
--- an entry that is counted where it says sequence, and else not
-pub counts : (entries : List Entry) (i count next all : ℕ) → i < length entries
-    → ((identifier documents : Range) (number : ℕ) → said_at entries i ≡ Sequence identifier documents number → next ≡ count + 1)
-    → (((identifier documents : Range) (number : ℕ) → said_at entries i ≡ Sequence identifier documents number → ⊥) → next ≡ count)
-    → count + sequences_from entries i ≡ all → next + sequences_from entries (i + 1) ≡ all
-counts entries i count next all l one none s = go (said_at entries i) refl
-  where
-    go : (q : Section) → said_at entries i ≡ q → next + sequences_from entries (i + 1) ≡ all
-    go (Sequence a b n) e = omega (arith, s, one a b n e, counts_one entries i a b n l e)
-    go None e = omega (arith, s, none (λ a b n k. none_differs a b n (sym e ∙ k)), counts_none entries i l (λ a b n k. none_differs a b n (sym e ∙ k)))
-    go (Body r) e = omega (arith, s, none (λ a b n k. body_differs r a b n (sym e ∙ k)), counts_none entries i l (λ a b n k. body_differs r a b n (sym e ∙ k)))
+  pub none_left : length v.entries ≤ i → record { start = 0; length = 0 } ≡ body_of (sections_of v)
+  unfolding sections_of body_from body_of
+  none_left l = sym (same ∙ ap body_of (said_end v.entries i l))
+
+pub ruleset body = (found, none_left)

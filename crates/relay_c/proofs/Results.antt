@@ -1,21 +1,22 @@
 -- What a call that writes a message promises, by the room for its view.
 -- Assumes nothing.
 use Prim.Native.Nat.{ℕ, ◌+◌, ◌*◌, ◌^◌, ◌<◌, ◌≤◌}
-use mathlib.Core.Path.{◌≡◌, refl, ap, ◌∙◌}
+use mathlib.Core.Path.{◌≡◌, refl, ◌∙◌}
 use mathlib.Core.List.{List, ◌++◌}
 use native.Mathlib.Omega.{arith}
 use lib.ListN.{length, drop}
 use lib.IntN.{ℤ}
+use Rattle.std.specs.Prelude.{Result}
 use Rattle.wire.specs.Outcome.{Outcome, ok, refused, ◌>>=◌}
-use Rattle.opmsg.specs.View.{answer}
+use Rattle.refusal.specs.Told.{told}
+use Rattle.refusal.specs.declared.Refusal.{Refusal}
 use Rattle.opmsg.specs.Inner.{judged}
-use Rattle.opmsg.specs.declared.Verdict.{Verdict}
-use Rattle.opmsg.specs.declared.Reading.{Reading}
+use Rattle.opmsg.specs.declared.View.{View}
 use Rattle.message.specs.Message.{Written, viewed, output}
 use Rattle.message.specs.Inner.{decided}
 use Rattle.relay_c_results.specs.Numbers.{view_numbers, view_size}
-use Rattle.relay_c_results.specs.Interface.{outcome, with_room, result_of, numbers}
-use Rattle.relay_c_results.proofs.Room.{outcome_answer, own_refusal, no_room, has_room}
+use Rattle.relay_c_results.specs.Interface.{with_room, result_of, numbers}
+use Rattle.relay_c_results.proofs.Room.{own_refusal, no_room, has_room}
 
 -- its result, the output, and the numbers of the view
 abbrev Promised : ℕ → Outcome Written → (code : ℕ) → (old out : List ℕ) → (view shown : List ℤ) → Type 0
@@ -35,21 +36,19 @@ module _ (room : ℕ) (o : Outcome Written) (old : List ℕ) (view : List ℤ) w
   accepted_leaves out shown h a b = rw h (refl, (a, b))
 
 -- with no room for the view a call refuses, by what it decides without writing
-pub short : (room : ℕ) (o : Outcome Written) (v : Verdict) (old : List ℕ) (view : List ℤ) {code : ℕ} → room < view_size → judged v ≡ decided o → code ≡ result_of (with_room 0 (judged v))
+pub short : (room : ℕ) (o : Outcome Written) (v : Result (Unit {0}) Refusal) (old : List ℕ) (view : List ℤ) {code : ℕ} → room < view_size → judged v ≡ decided o → code ≡ result_of (with_room 0 (judged v))
     → Promised room o code old old view view
 unfolding result_of view_size decided ◌>>=◌
 short room (ok w) v old view l d c = refused_leaves room (ok w) old view (no_room room (ok w) l refl) (c ∙ rw (no_room 0 (judged v) (omega arith) d))
 short room (refused number place) v old view l d c = refused_leaves room (refused number place) old view (own_refusal room (refused number place) refl) (c ∙ rw (own_refusal 0 (judged v) d))
 
--- with room for it, what the call answers is told
-pub told : (room : ℕ) (o : Outcome Written) (old out : List ℕ) (view shown : List ℤ) (r : Reading) {code : ℕ} → view_size ≤ room → r ≡ answer (viewed o) → out ≡ output o old
-    → code ≡ result_of (with_room room (outcome r)) → shown ≡ numbers (with_room room (outcome r)) view → Promised room o code old out view shown
+-- with room for it, what the call answers is shown
+pub answers : (room : ℕ) (o : Outcome Written) (old out : List ℕ) (view shown : List ℤ) (r : Result View Refusal) {code : ℕ} → view_size ≤ room → told r ≡ viewed o → out ≡ output o old
+    → code ≡ result_of (with_room room (told r)) → shown ≡ numbers (with_room room (told r)) view → Promised room o code old out view shown
 unfolding result_of output numbers viewed ◌>>=◌
-told room (ok w) old out view shown r l is a b c =
-    let e : outcome r ≡ ok w.view = ap outcome is ∙ outcome_answer _ in
-    let f = has_room room (outcome r) l e in
+answers room (ok w) old out view shown r l is a b c =
+    let f = has_room room (told r) l is in
     rw (has_room room (ok w) l refl) (b ∙ rw f, (a, c ∙ rw f))
-told room (refused number place) old out view shown r l is a b c =
-    let e : outcome r ≡ refused number place = ap outcome is ∙ outcome_answer _ in
-    let f = own_refusal room (outcome r) e in
+answers room (refused number place) old out view shown r l is a b c =
+    let f = own_refusal room (told r) is in
     rw (own_refusal {A = Written} room (refused number place) refl) (b ∙ rw f, (a, c ∙ rw f))

@@ -4,15 +4,14 @@ use Prim.Native.Nat.{ℕ, ◌^◌, ◌≤◌, ◌<◌}
 use mathlib.Core.Path.{◌≡◌, refl, sym}
 use native.Mathlib.Omega.{arith}
 use lib.Dec.{ltb}
+use Rattle.std.specs.Prelude.{Result, Ok, Err}
 use Rattle.wire.specs.Outcome.{Outcome, ok, refused, ◌>>=◌}
 use Rattle.wire.proofs.Outcome.{not_ok}
 use Rattle.wire.proofs.Meets.{good, missed, check}
-use Rattle.opmsg.specs.View.{answer}
+use Rattle.refusal.specs.Told.{number, told}
+use Rattle.refusal.specs.declared.Refusal.{Refusal}
 use Rattle.opmsg.specs.Inner.{judged}
 use Rattle.opmsg.specs.declared.View.{View}
-use Rattle.opmsg.specs.declared.Verdict.{Verdict}
-use Rattle.opmsg.specs.declared.Verdict.TheVariants.{Accepted, Refused}
-use Rattle.opmsg.specs.declared.Reading.{Reading}
 use Rattle.message.specs.Message.{Written, viewed}
 use Rattle.message.specs.Refusals.{Bounded}
 use Rattle.message.specs.Inner.{decided}
@@ -24,21 +23,21 @@ use Rattle.relay_c.specs.Results.{Told, ResultsTell}
 
 -- ---- the place of a refusal, where a result is made of it
 
-pub answer_placed : {last : ℕ} (o : Outcome View) (r : Reading) → Bounded last o → r ≡ answer o → Placed r.verdict
-unfolding answer
-answer_placed (ok v) r b e = rw e tt
-answer_placed (refused number place) r b e = rw e (b number place refl).3
+pub told_placed : {A : Type 0} {last : ℕ} (o : Outcome A) (r : Result A Refusal) → Bounded last o → told r ≡ o → Placed r
+told_placed o (Ok a) b e = tt
+told_placed o (Err r) b e = (b (number r.reason) r.place (sym e)).3
 
-pub viewed_placed : {last : ℕ} (o : Outcome Written) (r : Reading) → Bounded last o → r ≡ answer (viewed o) → Placed r.verdict
-unfolding answer viewed ◌>>=◌
-viewed_placed (ok w) r b e = rw e tt
-viewed_placed (refused number place) r b e = rw e (b number place refl).3
+pub viewed_placed : {last : ℕ} (o : Outcome Written) (r : Result View Refusal) → Bounded last o → told r ≡ viewed o → Placed r
+unfolding viewed ◌>>=◌
+viewed_placed o (Ok v) b e = tt
+viewed_placed (ok w) (Err r) b e = not_ok e
+viewed_placed (refused m q) (Err r) b e = let h : r.place ≡ q = cc in rw h (b m q refl).3
 
-pub decided_placed : {last : ℕ} (o : Outcome Written) (v : Verdict) → Bounded last o → judged v ≡ decided o → Placed v
+pub decided_placed : {last : ℕ} (o : Outcome Written) (v : Result (Unit {0}) Refusal) → Bounded last o → judged v ≡ decided o → Placed v
 unfolding decided ◌>>=◌
-decided_placed o Accepted b d = tt
-decided_placed (ok w) (Refused number place) b d = not_ok d
-decided_placed (refused m q) (Refused number place) b d = let e : place ≡ q = cc in rw e (b m q refl).3
+decided_placed o (Ok u) b d = tt
+decided_placed (ok w) (Err r) b d = not_ok d
+decided_placed (refused m q) (Err r) b d = let h : r.place ≡ q = cc in rw h (b m q refl).3
 
 -- ---- what the result tells
 
@@ -49,10 +48,10 @@ room_bounded {A} {last} l shown (ok a) b number place h =
     missed {P = λ (_ : A). Unit {0}} {Q = λ n p. (1 ≤ n) × (n ≤ last) × ¬ (n ≡ 26) × (p < 2 ^ 32)} (check 25 0 (ltb shown view_size) (λ _. ok a) (omega arith) λ _. good tt) h
 room_bounded l shown (refused n p) b number place h = b number place h
 
-told : {A : Type 0} {last : ℕ} (o : Outcome A) → Bounded last o → Told o
+tells : {A : Type 0} {last : ℕ} (o : Outcome A) → Bounded last o → Told o
 unfolding result_of
-told (ok a) b = record { zero_accepts = (λ _. (a, refl), λ _. refl); halves = λ number place h. not_ok (sym h) }
-told (refused n p) b =
+tells (ok a) b = record { zero_accepts = (λ _. (a, refl), λ _. refl); halves = λ number place h. not_ok (sym h) }
+tells (refused n p) b =
     let q = b n p refl in
     record {
       zero_accepts = (λ z. absurd (omega (arith, q.0)), λ k. not_ok k.1);
@@ -66,9 +65,9 @@ pub results_tell : ResultsTell
 results_tell =
     let r = refusals_bounded in
     record {
-      reads = λ e s shown. told _ (room_bounded (omega arith) shown _ (r.reads e s));
-      forwards = λ e s room shown. told _ (room_bounded (omega arith) shown _ (r.forwards e s room));
-      writes = λ e i j flags body room shown. told _ (room_bounded (omega arith) shown _ (r.writes e i j flags body room));
-      appends = λ e s identifier documents room shown. told _ (room_bounded (omega arith) shown _ (r.appends e s identifier documents room));
-      moves = λ e s behind room shown. told _ (room_bounded (omega arith) shown _ (r.moves e s behind room));
+      reads = λ e s shown. tells _ (room_bounded (omega arith) shown _ (r.reads e s));
+      forwards = λ e s room shown. tells _ (room_bounded (omega arith) shown _ (r.forwards e s room));
+      writes = λ e i j flags body room shown. tells _ (room_bounded (omega arith) shown _ (r.writes e i j flags body room));
+      appends = λ e s identifier documents room shown. tells _ (room_bounded (omega arith) shown _ (r.appends e s identifier documents room));
+      moves = λ e s behind room shown. tells _ (room_bounded (omega arith) shown _ (r.moves e s behind room));
     }

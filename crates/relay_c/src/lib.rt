@@ -13,7 +13,7 @@ ghost use Rattle.relay_c_results.specs.Interface.{edition_of, with_room, result_
 ghost use Rattle.relay_c_listing.specs.Interface.{with_answer, listing_numbers};
 
 use message_forward_store::forwarded;
-use opmsg::Verdict;
+use refusal::Reason;
 use relay_c_results::numbers::show;
 use relay_c_results::{NUMBERS, answered, edition, refusal, without_view};
 
@@ -37,22 +37,21 @@ pub extern "C" fn relay_forward(
     ensures writes { out.new ≡ output (with_room (length view.old) (forward (edition_of bits sequences) message.now (length out.old))) out.old }
     ensures shows { view.new ≡ numbers (viewed (with_room (length view.old) (forward (edition_of bits sequences) message.now (length out.old)))) view.old }
 {
-    let r = opmsg_read::read(edition(bits, sequences), message);
-    let verdict = r.verdict;
-    if let Verdict::Refused { number, place } = verdict {
-        return refusal(number, place);
+    match &opmsg_read::read(edition(bits, sequences), message) {
+        Ok(v) => {
+            let size = v.length as usize;
+            if out.len() < size {
+                return refusal(u32::from(Reason::ShortOutput), 0);
+            }
+            if view.len() < NUMBERS {
+                return refusal(u32::from(Reason::ShortOutput), 0);
+            }
+            forwarded(out, message, size, v.flags);
+            show(v, view);
+            0
+        }
+        Err(r) => refusal(u32::from(r.reason), r.place),
     }
-    let size = r.view.length as usize;
-    if out.len() < size {
-        return refusal(25, 0);
-    }
-    if view.len() < NUMBERS {
-        return refusal(25, 0);
-    }
-    forwarded(out, message, size, r.view.flags);
-    let shown = r.view;
-    show(shown, view);
-    0
 }
 
 #[unsafe(no_mangle)]

@@ -1,31 +1,12 @@
 -- What a call answers, by the room for its view.
 -- Assumes nothing.
 use Prim.Native.Nat.{ℕ, ◌<◌, ◌≤◌}
-use mathlib.Core.Path.{◌≡◌, refl, ◌∙◌}
+use mathlib.Core.Path.{◌≡◌, ◌∙◌}
 use borrow.Author.Tests.{lt-ltb, le-ltb}
 use Rattle.wire.specs.Outcome.{Outcome, ok, refused}
 use Rattle.wire.proofs.Outcome.{pass, stop, go_on, halt}
-use Rattle.opmsg.specs.View.{answer}
-use Rattle.opmsg.specs.declared.View.{View}
-use Rattle.opmsg.specs.declared.Verdict.TheVariants.{Accepted, Refused}
-use Rattle.opmsg.specs.declared.Reading.{Reading}
 use Rattle.relay_c_results.specs.Numbers.{view_size}
-use Rattle.relay_c_results.specs.Interface.{outcome, with_room}
-
--- an answer tells the outcome that it stands for
-pub outcome_answer : (o : Outcome View) → outcome (answer o) ≡ o
-unfolding outcome answer
-outcome_answer (ok v) = refl
-outcome_answer (refused number place) = refl
-
--- by its verdict
-pub outcome_refused : {number place : ℕ} (r : Reading) → r.verdict ≡ Refused number place → outcome r ≡ refused number place
-unfolding outcome
-outcome_refused r h = rw h
-
-pub outcome_accepted : (r : Reading) → r.verdict ≡ Accepted → outcome r ≡ ok r.view
-unfolding outcome
-outcome_accepted r h = rw h
+use Rattle.relay_c_results.specs.Interface.{with_room}
 
 module _ {A : Type 0} (room : ℕ) (o : Outcome A) where
   -- the call's own refusal

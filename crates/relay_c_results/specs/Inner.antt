@@ -1,10 +1,9 @@
--- What the functions that make a result ask of a verdict.
+-- What the functions that make a result ask of an answer.
 -- Assumes nothing: these are definitions.
-use Rattle.std.specs.Prelude.{◌^◌, ◌<◌}
-use Rattle.opmsg.specs.declared.Verdict.{Verdict}
-use Rattle.opmsg.specs.declared.Verdict.TheVariants.{Accepted, Refused}
+use Rattle.std.specs.Prelude.{◌^◌, ◌<◌, Result, Ok, Err}
+use Rattle.refusal.specs.declared.Refusal.{Refusal}
 
 -- the place of a refusal has 32 bits
-abbrev pub Placed : Verdict → Type 0
-Placed Accepted = Unit {0}
-Placed (Refused number place) = place < 2 ^ 32
+abbrev pub Placed : {A : Type 0} → Result A Refusal → Type 0
+Placed (Ok a) = Unit {0}
+Placed (Err r) = r.place < 2 ^ 32

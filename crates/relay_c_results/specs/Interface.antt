@@ -4,17 +4,11 @@ use Rattle.std.specs.Prelude.{ℕ, ◌+◌, ◌*◌, ◌^◌, not, List, ◌++�
 use Rattle.wire.specs.Outcome.{Outcome, ok, refused, refuse, ◌>>=◌}
 use Rattle.opmsg.specs.declared.Edition.{Edition}
 use Rattle.opmsg.specs.declared.View.{View}
-use Rattle.opmsg.specs.declared.Verdict.TheVariants.{Accepted, Refused}
-use Rattle.opmsg.specs.declared.Reading.{Reading}
 use Rattle.relay_c_results.specs.Numbers.{view_numbers, view_size}
 
 -- an edition: its known bits, and whether sections of kind 1 are known, 0 or not 0
 unfoldable pub edition_of : ℕ → ℕ → Edition
 edition_of bits sequences = record { bits = bits; sequences = not (eqb sequences 0) }
-
--- what an answer tells
-unfoldable pub outcome : Reading → Outcome View
-outcome r = elim r.verdict [ Accepted ↦ ok r.view | Refused number place ↦ refused number place ]
 
 -- room for the numbers of a view is asked after the call's own refusals
 unfoldable pub with_room : {A : Type 0} → ℕ → Outcome A → Outcome A

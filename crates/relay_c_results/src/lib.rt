@@ -4,25 +4,25 @@
 pub mod numbers;
 
 ghost use Rattle.std.specs.Prelude.{◌≡◌, ◌+◌, ◌*◌, ◌^◌, ◌<◌, length};
+ghost use Rattle.refusal.specs.Told.{told};
 ghost use Rattle.opmsg.specs.Inner.{judged};
-ghost use Rattle.relay_c_results.specs.Interface.{edition_of, outcome, with_room, result_of, numbers};
+ghost use Rattle.relay_c_results.specs.Interface.{edition_of, with_room, result_of, numbers};
 ghost use Rattle.relay_c_results.specs.Inner.{Placed};
 
 use crate::numbers::show;
-use opmsg::{Edition, Reading, Verdict};
+use opmsg::{Edition, View};
+use refusal::{Reason, Refusal};
 
 // How many numbers a view takes.
 pub const NUMBERS: usize = 107;
 
 // An edition by its numbers.
+#[tactic(auto, unfolding(crate::specs::Interface::edition_of))]
 pub fn edition(bits: u32, sequences: u8) -> Edition
     ensures { result ≡ edition_of bits sequences }
 {
-    let known = sequences != 0;
-    Edition {
-        bits,
-        sequences: known,
-    }
+    let sequences = sequences != 0;
+    Edition { bits, sequences }
 }
 
 // The result of a call that refuses.
@@ -30,34 +30,35 @@ pub fn refusal(number: u32, place: usize) -> u64
     requires { place < 2 ^ 32 }
     ensures { result ≡ number * 2 ^ 32 + place }
 {
-    (number as u64) * 0x1_0000_0000 + place as u64
+    u64::from(number) * 0x1_0000_0000 + place as u64
 }
 
 // The result of a call, and the numbers of its view where there is room for them.
-pub fn answered(reading: Reading, view: &mut [i64]) -> u64
-    requires { Placed reading.verdict }
-    ensures answers { result ≡ result_of (with_room (length view.old) (outcome reading)) }
-    ensures shows { view.new ≡ numbers (with_room (length view.old) (outcome reading)) view.old }
+#[inline(always)]
+pub fn answered(reading: Result<View, Refusal>, view: &mut [i64]) -> u64
+    requires { Placed reading }
+    ensures answers { result ≡ result_of (with_room (length view.old) (told reading)) }
+    ensures shows { view.new ≡ numbers (with_room (length view.old) (told reading)) view.old }
 {
-    let verdict = reading.verdict;
-    if let Verdict::Refused { number, place } = verdict {
-        return refusal(number, place);
+    match &reading {
+        Ok(v) => {
+            if view.len() < NUMBERS {
+                return refusal(u32::from(Reason::ShortOutput), 0);
+            }
+            show(v, view);
+            0
+        }
+        Err(r) => refusal(u32::from(r.reason), r.place),
     }
-    if view.len() < NUMBERS {
-        return refusal(25, 0);
-    }
-    let shown = reading.view;
-    show(shown, view);
-    0
 }
 
 // The result of a call that has no room for its view, by what it decides without writing.
-pub fn without_view(verdict: Verdict) -> u64
-    requires { Placed verdict }
-    ensures { result ≡ result_of (with_room 0 (judged verdict)) }
+pub fn without_view(decided: Result<(), Refusal>) -> u64
+    requires { Placed decided }
+    ensures { result ≡ result_of (with_room 0 (judged decided)) }
 {
-    if let Verdict::Refused { number, place } = verdict {
-        return refusal(number, place);
+    match decided {
+        Ok(()) => refusal(u32::from(Reason::ShortOutput), 0),
+        Err(r) => refusal(u32::from(r.reason), r.place),
     }
-    refusal(25, 0)
 }

@@ -33,20 +33,20 @@ supply rest new kept to front l = go (eqb to kept) refl
 
 module _ (t : Turned) (p : Progress) (old : List ℕ) (used : ℕ) (run : Run) (done : Bool) (u : used ≡ t.used) (r : run ≡ t.run) where
   -- a turn that asks for no more
-  pub took_on : t.more ≡ false → Took t p old (record { at = p.at + used; end = p.end; ended = p.ended; done = done; run = run }) old
+  pub took_on : t.more ≡ false → Took t p old (record { window = record { at = p.window.at + used; end = p.window.end; ended = p.window.ended }; done = done; run = run }) old
   unfolding onward
   took_on m = record {
     run = r;
     pieces = [];
-    before = rw (onward, m, ← u, next_part p.at used p.end old);
+    before = rw (onward, m, ← u, next_part p.window.at used p.window.end old);
   }
 
   -- one that does: what is kept stands at the front, and what was read behind it
-  pub took_more : (new : List ℕ) (to : ℕ) → t.more ≡ true → take (p.end - (p.at + used)) new ≡ take (p.end - (p.at + used)) (drop (p.at + used) old) → p.end - (p.at + used) ≤ to
-      → Took t p old (record { at = 0; end = to; ended = eqb to (p.end - (p.at + used)); done = done; run = run }) new
+  pub took_more : (new : List ℕ) (to : ℕ) → t.more ≡ true → take (p.window.end - (p.window.at + used)) new ≡ take (p.window.end - (p.window.at + used)) (drop (p.window.at + used) old) → p.window.end - (p.window.at + used) ≤ to
+      → Took t p old (record { window = record { at = 0; end = to; ended = eqb to (p.window.end - (p.window.at + used)) }; done = done; run = run }) new
   unfolding onward
   took_more new to m front l =
-      let s = supply (drop used (held p old)) new (p.end - (p.at + used)) to (front ∙ sym (next_part p.at used p.end old)) l in
+      let s = supply (drop used (held p old)) new (p.window.end - (p.window.at + used)) to (front ∙ sym (next_part p.window.at used p.window.end old)) l in
       let none : to - 0 ≡ to = omega arith in
       record {
         run = r;

@@ -14,15 +14,15 @@ turns = 2 ^ 47
 
 -- the bytes at hand
 abbrev pub held : Progress → List ℕ → List ℕ
-held p buf = between p.at p.end buf
+held p buf = between p.window.at p.window.end buf
 
 -- what a run has before it, where the pieces are still to come
 abbrev pub input : Progress → (buf : List ℕ) → (pieces : List (List ℕ)) → Input
-input p buf pieces = record { held = held p buf; pieces = pieces; ended = p.ended }
+input p buf pieces = record { held = held p buf; pieces = pieces; ended = p.window.ended }
 
 -- they lie in the buffer
 abbrev pub Lies : Progress → Type 0
-Lies p = Lie p.at p.end buffer_length
+Lies p = Lie p.window.at p.window.end buffer_length
 
 pub record Held (p : Progress) : Type 0 where
   pub lies : Lies p

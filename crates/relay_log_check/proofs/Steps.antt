@@ -16,17 +16,13 @@ use Rattle.relay_log_check.specs.declared.Progress.{Progress}
 module _ (p : Progress) (old : List ℕ) where
   -- bytes at hand were read
   pub went_on : (next : Standing) (used : ℕ) (done : Bool) → ((later : List ℕ) → tell p.standing (held p old ++ later) ≡ tell next (drop used (held p old) ++ later))
-      → Went p old (record { at = p.at + used; end = p.end; ended = p.ended; done = done; standing = next }) old
-  went_on next used done h = record { piece = []; tells = λ later. rw (append-nil, ← next_part p.at used p.end old) (h later) }
+      → Went p old (record { window = record { at = p.window.at + used; end = p.window.end; ended = p.window.ended }; done = done; standing = next }) old
+  went_on next used done h = record { piece = []; tells = λ later. rw (append-nil, ← next_part p.window.at used p.window.end old) (h later) }
 
   -- more were read behind them
-  pub went_more : (new : List ℕ) (to : ℕ) (ended done : Bool) → take (p.end - p.at) new ≡ held p old → p.end - p.at ≤ to
-      → Went p old (record { at = 0; end = to; ended = ended; done = done; standing = p.standing }) new
+  pub went_more : (new : List ℕ) (to : ℕ) (ended done : Bool) → take (p.window.end - p.window.at) new ≡ held p old → p.window.end - p.window.at ≤ to
+      → Went p old (record { window = record { at = 0; end = to; ended = ended }; done = done; standing = p.standing }) new
   went_more new to ended done front l =
-      let kept = p.end - p.at in
+      let kept = p.window.end - p.window.at in
       let none : to - 0 ≡ to = omega arith in
       record { piece = take (to - kept) (drop kept new); tells = λ later. rw (none, read_behind (held p old) new kept to front l) }
-
-  -- nothing changed
-  pub went_nowhere : (done : Bool) → Went p old (record { at = p.at; end = p.end; ended = p.ended; done = done; standing = p.standing }) old
-  went_nowhere done = record { piece = []; tells = λ later. rw append-nil }

@@ -11,10 +11,10 @@ buffer_length = 65536
 
 -- the bytes at hand
 abbrev pub held : Progress → List ℕ → List ℕ
-held p buf = between p.at p.end buf
+held p buf = between p.window.at p.window.end buf
 
 abbrev pub Lies : Progress → Type 0
-Lies p = Lie p.at p.end buffer_length
+Lies p = Lie p.window.at p.window.end buffer_length
 
 pub record Held (p : Progress) : Type 0 where
   pub lies : Lies p

@@ -3,103 +3,71 @@
 
 ghost use Rattle.std.specs.Prelude.{◌≡◌, length};
 
-use relay::{
-    Range, Reading, Section, Verdict, View, append, body, forward, house, read, sequence_count,
-};
+use relay::{Range, Refusal, Section, View, append, body, forward, house, read, sequence_count};
 
-fn number(n: u32) {
-    io::write_all(1, b"\t");
-    io::print_decimal(1, n as u64);
+// Where something cannot be written, the program goes on.
+fn numbers(rt: HostRuntime, a: u32, b: u32) {
+    print!(rt; "\t{a}\t{b}").unwrap_or(());
 }
 
-fn refused(n: u32, place: usize) {
-    io::write_all(1, b"\trefused");
-    number(n);
-    io::write_all(1, b"\t");
-    io::print_decimal(1, place as u64);
-}
-
-fn part(range: Range) {
-    number(range.start);
-    number(range.length);
+fn part(rt: HostRuntime, range: Range) {
+    numbers(rt, range.start, range.length);
 }
 
 // What an entry says; where it says none, nothing.
-fn said(section: Section) {
+fn said(rt: HostRuntime, section: Section) {
     match section {
         Section::None => {}
         Section::Body(range) => {
-            io::write_all(1, b"\tbody");
-            part(range);
+            print!(rt; "\tbody").unwrap_or(());
+            part(rt, range);
         }
         Section::Sequence {
             identifier,
             documents,
-            number: count,
+            number,
         } => {
-            io::write_all(1, b"\tsequence");
-            part(identifier);
-            part(documents);
-            number(count);
+            print!(rt; "\tsequence").unwrap_or(());
+            part(rt, identifier);
+            part(rt, documents);
+            print!(rt; "\t{number}").unwrap_or(());
         }
     }
 }
 
-// The list of a view, in the message's order.
-fn list(v: View) {
-    let entries = v.entries;
-    for i in 0..17 {
-        let entry = entries[i];
-        let section = entry.section;
-        said(section);
+fn accepted(rt: HostRuntime, v: View) {
+    print!(rt; "\taccepted").unwrap_or(());
+    numbers(rt, v.length, v.flags);
+    part(rt, body(v));
+    numbers(rt, sequence_count(v), v.elements);
+    for entry in v.entries {
+        said(rt, entry.section);
     }
-}
-
-fn accepted(v: View) {
-    io::write_all(1, b"\taccepted");
-    number(v.length);
-    number(v.flags);
-    part(body(v));
-    number(sequence_count(v));
-    number(v.elements);
-    list(v);
 }
 
 // A trial's name and its answer: numbers of the view and its list, or `refused`, number and place.
-fn line(name: &[u8], r: Reading) {
-    io::write_all(1, name);
-    let verdict = r.verdict;
-    match verdict {
-        Verdict::Refused { number, place } => refused(number, place),
-        Verdict::Accepted => accepted(r.view),
+fn line(rt: HostRuntime, name: &str, r: Result<View, Refusal>) {
+    print!(rt; "{name}").unwrap_or(());
+    match r {
+        Ok(v) => accepted(rt, v),
+        Err(r) => print!(rt; "\trefused\t{}\t{}", u32::from(r.reason), r.place).unwrap_or(()),
     }
-    io::write_all(1, b"\n");
+    println!(rt; "").unwrap_or(());
 }
 
 // A trial that reads the first n bytes of a message.
-fn reads(name: &[u8], message: &[u8], n: usize) {
-    if n <= message.len() {
-        line(name, read(house(), &message[..n]));
+fn reads(rt: HostRuntime, name: &str, message: &[u8], n: usize) {
+    if let Some(start) = message.get(..n) {
+        line(rt, name, read(house(), start));
     }
-}
-
-fn byte(b: u8) {
-    io::print_hex(1, b as u64, 2);
 }
 
 // A message in hexadecimal.
-fn hex(s: &[u8]) {
-    let mut i = 0;
-    while i < s.len() {
-        byte(s[i]);
-        i += 1;
+fn hex(rt: HostRuntime, s: &[u8]) {
+    for byte in s {
+        print!(rt; "{byte:02x}").unwrap_or(());
     }
-    io::write_all(1, b"\n");
-}
-
-// The same of a message as long as PING.
-fn first(name: &[u8], message: &[u8; 36], n: usize) {
-    reads(name, message, n);
+    println!(rt; "").unwrap_or(());
 }
 
 fn ping() -> [u8; 36]
@@ -109,81 +77,80 @@ fn ping() -> [u8; 36]
 }
 
 // A trial that reads PING with another byte at a place.
-fn changed(name: &[u8], at: usize, b: u8) {
+fn changed(rt: HostRuntime, name: &str, at: usize, b: u8) {
     let mut message = ping();
-    if at < 36 {
-        message[at] = b;
+    if let Some(byte) = message.get_mut(at) {
+        *byte = b;
     }
-    first(name, &message, 36);
+    reads(rt, name, &message, 36);
 }
 
-fn lengths() {
+fn lengths(rt: HostRuntime) {
     let mut message = ping();
-    first(b"T1", &message, 36);
-    first(b"T2", &message, 0);
-    message[0] = 0xFF;
-    message[1] = 0xFF;
-    message[2] = 0xFF;
-    message[3] = 0xFF;
-    first(b"T3", &message, 36);
+    reads(rt, "T1", &message, 36);
+    reads(rt, "T2", &message, 0);
+    message[..4].fill(0xFF);
+    reads(rt, "T3", &message, 36);
     message = ping();
-    first(b"T4", &message, 35);
+    reads(rt, "T4", &message, 35);
 }
 
-fn opcodes_and_flags() {
-    changed(b"T5", 12, 0xD3);
-    changed(b"T6", 12, 0xD4);
-    changed(b"T7", 16, 4);
+fn opcodes_and_flags(rt: HostRuntime) {
+    changed(rt, "T5", 12, 0xD3);
+    changed(rt, "T6", 12, 0xD4);
+    changed(rt, "T7", 16, 4);
 }
 
-fn forwarding() {
+fn forwarding(rt: HostRuntime) {
     let mut message = ping();
     message[18] = 2;
     let mut out = [0u8; 36];
-    line(b"T8", forward(house(), &message, &mut out));
-    hex(&out);
+    line(rt, "T8", forward(house(), &message, &mut out));
+    hex(rt, &out);
 }
 
-fn sections() {
+fn sections(rt: HostRuntime) {
     let mut message = ping();
     message[0] = 20;
-    first(b"T9", &message, 20);
-    changed(b"T10", 20, 2);
+    reads(rt, "T9", &message, 20);
+    changed(rt, "T10", 20, 2);
 }
 
-fn appending() {
+fn appending(rt: HostRuntime) {
     let message = ping();
     let mut out = [0u8; 48];
     line(
-        b"T11",
+        rt,
+        "T11",
         append(house(), &message, b"d", b"\x05\0\0\0\0", &mut out),
     );
-    hex(&out);
+    hex(rt, &out);
     let mut bodies_only = house();
     bodies_only.sequences = false;
-    line(b"T12", read(bodies_only, &out));
+    line(rt, "T12", read(bodies_only, &out));
 }
 
-fn clashing() {
+fn clashing(rt: HostRuntime) {
     let message = ping();
     let mut out = [0u8; 48];
-    line(b"T13", append(house(), &message, b"ping", b"", &mut out));
+    line(rt, "T13", append(house(), &message, b"ping", b"", &mut out));
 }
 
-fn names() {
+fn names(rt: HostRuntime) {
     reads(
-        b"T14",
+        rt,
+        "T14",
         b"\x2E\x00\x00\x00\x07\x00\x00\x00\x00\x00\x00\x00\xDD\x07\x00\x00\x00\x00\x00\x00\x00\x19\x00\x00\x00\x10ping\x00\x01\x00\x00\x00\x10ping\x00\x01\x00\x00\x00\x00",
         46,
     );
 }
 
-fn main() {
-    lengths();
-    opcodes_and_flags();
-    forwarding();
-    sections();
-    appending();
-    clashing();
-    names();
+fn main(rt: HostRuntime) {
+    lengths(rt);
+    opcodes_and_flags(rt);
+    forwarding(rt);
+    sections(rt);
+    appending(rt);
+    clashing(rt);
+    names(rt);
 }

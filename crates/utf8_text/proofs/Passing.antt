@@ -7,6 +7,7 @@ use native.Mathlib.Omega.{arith}
 use lib.ListN.{length, get_or, take, drop, length-drop, drop_of_length-le}
 use lib.Seq.{length-take-le, get_or-take, drop-drop}
 use borrow.Author.Tests.{eq-eqb}
+use Rattle.std.specs.Prelude.{Ok}
 use Rattle.wire.specs.Outcome.{ok}
 use Rattle.wire.proofs.Bytes.{at_zero}
 use Rattle.wire.proofs.Parts.{rest_part}
@@ -15,7 +16,6 @@ use Rattle.utf8.specs.Text.{character_of, well_formed, text_at}
 use Rattle.utf8.proofs.Longest.{of_character, bounded}
 use Rattle.utf8.proofs.Beginning.{one, byte_character, front_passed}
 use Rattle.utf8_ascii.specs.Inner.{Ascii, PlainRun}
-use Rattle.utf8_text.specs.declared.ZeroEnded.{ZeroEnded}
 use Rattle.utf8_text.specs.Inner.{Passes, Ended}
 
 -- ---- one character, or none
@@ -58,5 +58,5 @@ ascii_passed n xs l a at =
     front_passed n (well_formed (take n xs)) xs l refl at (omega arith)
 
 -- so where a zero byte stands behind them, they are the text that it ends
-pub plain_text : (n : ℕ) (xs : List ℕ) → PlainRun n xs → (n < length xs) × (get_or xs n 0 ≡ 0) → Ended xs (ZeroEnded.Text n)
+pub plain_text : (n : ℕ) (xs : List ℕ) → PlainRun n xs → (n < length xs) × (get_or xs n 0 ≡ 0) → Ended xs (Ok n)
 plain_text n xs p z = (omega (arith, p.1.1, at_zero xs n z.0 (eq-eqb _ _ z.1)), z.0, ascii_passed n xs p.1.0 p.0)

@@ -1,10 +1,10 @@
 -- What the answers of the functions stand for.
 -- Assumes nothing: these are definitions.
-use Rattle.std.specs.Prelude.{ℕ, ◌+◌, ◌≤◌, ◌<◌, List, ◌≡◌, ◌⊎◌, length, get_or, take, drop}
+use Rattle.std.specs.Prelude.{ℕ, ◌+◌, ◌≤◌, ◌<◌, List, ◌≡◌, ◌⊎◌, Result, Ok, Err, length, get_or, take, drop}
 use Rattle.wire.specs.Outcome.{ok, refused}
 use Rattle.wire.specs.Bytes.{until_zero}
 use Rattle.utf8.specs.Text.{well_formed, text_at}
-use Rattle.utf8_text.specs.declared.ZeroEnded.{ZeroEnded}
+use Rattle.utf8_text.specs.declared.TextError.{TextError}
 
 -- the first n bytes of xs are characters, and the longest well-formed beginning runs on behind them
 abbrev pub Passes : (n : ℕ) → List ℕ → Type 0
@@ -26,7 +26,7 @@ abbrev pub Joined : (n : ℕ) → List ℕ → Type 0
 Joined n xs = (i : ℕ) → i < n → Follows (get_or xs i 0) (get_or xs (i + 1) 0)
 
 -- what is found of text that a zero byte ends
-abbrev pub Ended : List ℕ → ZeroEnded → Type 0
-Ended xs (ZeroEnded.Text n) = (n ≡ until_zero xs) × (n < length xs) × ((at : ℕ) → text_at at (take n xs) ≡ ok tt)
-Ended xs ZeroEnded.Unended = length xs ≤ until_zero xs
-Ended xs (ZeroEnded.IllFormed n) = (until_zero xs < length xs) × (n < until_zero xs) × ((at : ℕ) → text_at at (take (until_zero xs) xs) ≡ refused 27 (at + n))
+abbrev pub Ended : List ℕ → Result ℕ TextError → Type 0
+Ended xs (Ok n) = (n ≡ until_zero xs) × (n < length xs) × ((at : ℕ) → text_at at (take n xs) ≡ ok tt)
+Ended xs (Err TextError.Unended) = length xs ≤ until_zero xs
+Ended xs (Err (TextError.IllFormed n)) = (until_zero xs < length xs) × (n < until_zero xs) × ((at : ℕ) → text_at at (take (until_zero xs) xs) ≡ refused 27 (at + n))

@@ -11,10 +11,9 @@ use wire::{until_far_zero, until_zero};
 mod characters;
 mod runs;
 
-// What a zero byte ends: text of so many bytes; or there is no zero byte; or the bytes before it are UTF-8 up to that one alone.
-#[derive(Drop)]
-pub enum ZeroEnded {
-    Text(usize),
+// Why no text ends at a zero byte: there is none; or the bytes before it are UTF-8 up to that one alone.
+#[derive(Clone, Copy, Debug, PartialEq, Eq)]
+pub enum TextError {
     Unended,
     IllFormed(usize),
 }
@@ -65,6 +64,7 @@ pub fn well_formed(s: &[u8]) -> usize
     ensures { result ≡ well_formed s.now }
 {
     let mut i = 0;
+    // A step passes what it finds, so there is no range for a `for` to go over.
     while i < s.len() {
         let n = step(&s[i..]);
         if n == 0 {
@@ -79,45 +79,42 @@ pub fn well_formed(s: &[u8]) -> usize
 fn zero_at(s: &[u8], n: usize) -> bool
     ensures { result ≡ true → (n < length s.now) × (get_or s.now n 0 ≡ 0) }
 {
-    if s.len() <= n {
-        return false;
-    }
-    s[n] == 0
+    s.get(n) == Some(&0)
 }
 
 // Text up to the first zero byte, which stands behind n others, whatever characters it has.
-fn ended(s: &[u8], n: usize) -> ZeroEnded
+fn ended(s: &[u8], n: usize) -> Result<usize, TextError>
     requires { n ≡ until_zero s.now }
     ensures { Ended s.now result }
 {
     if s.len() <= n {
-        return ZeroEnded::Unended;
+        return Err(TextError::Unended);
     }
     let m = well_formed(&s[..n]);
     if m < n {
-        return ZeroEnded::IllFormed(m);
+        return Err(TextError::IllFormed(m));
     }
-    ZeroEnded::Text(n)
+    Ok(n)
 }
 
 // Text up to the first zero byte. Most has characters of one byte alone, and then one search tells both where it ends and that it is UTF-8.
-pub fn zero_ended(s: &[u8]) -> ZeroEnded
+pub fn zero_ended(s: &[u8]) -> Result<usize, TextError>
     ensures { Ended s.now result }
 {
     let n = utf8_ascii::until_zero(s);
     if zero_at(s, n) {
-        return ZeroEnded::Text(n);
+        return Ok(n);
     }
     ended(s, until_zero(s))
 }
 
 // The same by four bytes at a time, for text that may be long.
-pub fn far_ended(s: &[u8]) -> ZeroEnded
+pub fn far_ended(s: &[u8]) -> Result<usize, TextError>
     ensures { Ended s.now result }
 {
     let n = utf8_ascii::plain_run(s);
     if zero_at(s, n) {
-        return ZeroEnded::Text(n);
+        return Ok(n);
     }
     ended(s, until_far_zero(s))
 }

@@ -1,7 +1,7 @@
 -- Laws of numbers and texts in a run of bytes: a number's four bytes read back, and what a front of the bytes shows.
 -- Assumes nothing.
 use Prim.Native.Nat.{ℕ, zero, suc, ◌+◌, ◌-◌, ◌*◌, ◌/◌, ◌%◌, ◌^◌, ◌<◌, ◌≤◌}
-use mathlib.Core.Bool.{Bool, true, false}
+use mathlib.Core.Bool.{Bool, true, false, cond}
 use mathlib.Core.Path.{◌≡◌, refl, sym, ap, ◌∙◌}
 use mathlib.Core.List.{List, [], ◌∷◌, ◌++◌}
 use native.Mathlib.Omega.{arith}
@@ -13,7 +13,11 @@ use lib.Dec.{ltb, leb, eqb}
 use lib.IntN.{ℤ, pos, negsuc}
 use mir.Syntax.{w32}
 use mir.Val.{SFits}
-use borrow.Author.Tests.{ltb-false, leb-false, lt-ltb, le-ltb, lt-leb, eqb-true}
+use borrow.Author.Tests.{ltb-false, leb-false, lt-ltb, le-ltb, lt-leb, eqb-true, eq-eqb, ne_eqb}
+use Rattle.std.specs.Prelude.{◌≢◌}
+use Rattle.std.specs.List.{position_or_len}
+use Rattle.std.specs.Int.{cast_signed, cast_unsigned, from_le_bytes, to_le_bytes}
+use Rattle.std.proofs.lemmas.List.Recursion.{is_position_or_len}
 use Rattle.wire.proofs.Agree.{agree_word, agree_append}
 use Rattle.wire.specs.Bytes.{Bytes, word, word_at, under, signed, bits32, le32, until_zero}
 
@@ -29,6 +33,29 @@ under_false n w h = go (ltb w n) refl h
     go : (b : Bool) → ltb w n ≡ b → ◌≡◌ {A = Bool} (elim b [ true ↦ true | false ↦ leb (2 ^ 31) w ]) false → (n ≤ w) × (w < 2 ^ 31)
     go true e h = let z : ◌≡◌ {A = ℕ} 0 1 = cc in absurd (omega arith)
     go false e h = (ltb-false w n e, leb-false (2 ^ 31) w h)
+
+-- std's words for the same: of signed numbers,
+pub signed_is : (w : ℕ) → signed w ≡ cast_signed w32 w
+unfolding signed
+signed_is w = go (ltb w (2 ^ 31)) refl
+  where
+    go : (b : Bool) → ltb w (2 ^ 31) ≡ b → signed w ≡ cast_signed w32 w
+    go true e = rw (signed, e) refl
+    go false e = let same : 2 ^ 32 - 1 - w ≡ 2 ^ 32 - suc w = omega arith in rw (signed, e, same) refl
+
+pub bits32_is : (x : ℤ) → bits32 x ≡ cast_unsigned w32 x
+unfolding bits32
+bits32_is (pos n) = refl
+bits32_is (negsuc n) = omega arith
+
+-- and of words and their bytes
+pub le32_is : (w : ℕ) → to_le_bytes w32 w ≡ le32 w
+unfolding le32
+le32_is w = grind arith
+
+pub word_is : (s : List ℕ) → word s ≡ from_le_bytes w32 (get_or s 0 0 ∷ get_or s 1 0 ∷ get_or s 2 0 ∷ get_or s 3 0 ∷ [])
+unfolding word
+word_is s = omega arith
 
 -- bytes
 pub bytes_drop : (k : ℕ) (s : List ℕ) → Bytes s → Bytes (drop k s)
@@ -123,6 +150,14 @@ pub until_go : (x : ℕ) (l : List ℕ) → eqb x 0 ≡ false → until_zero (x 
 unfolding until_zero
 until_go x l e = rw (until_zero, e)
 
+-- the search by std's word
+pub until_zero_is : (s : List ℕ) → until_zero s ≡ position_or_len (λ x. eqb x 0) s
+until_zero_is s = is_position_or_len until_zero (λ x. eqb x 0) (unfold until_zero in refl) (λ x xs. go x xs (eqb x 0) refl) s
+  where
+    go : (x : ℕ) (xs : List ℕ) (b : Bool) → eqb x 0 ≡ b → until_zero (x ∷ xs) ≡ cond (eqb x 0) 0 (1 + until_zero xs)
+    go x xs true e = rw (until_stop x xs e, e) refl
+    go x xs false e = rw (until_go x xs e, e) (omega arith)
+
 -- a zero stands where the search ends
 pub until_zero_lem : (l : List ℕ) → until_zero l < length l → get_or l (until_zero l) 0 ≡ 0
 until_zero_lem [] h = refl
@@ -142,6 +177,19 @@ past_byte xs i h z = rw (add-one, drop-cons xs i 0 h) (until_go _ _ z)
 pub past_all : (xs : List ℕ) (i : ℕ) → length xs ≤ i → until_zero (drop i xs) ≡ 0
 unfolding until_zero
 past_all xs i h = rw (drop_of_length-le xs h)
+
+-- what a loop knows that has passed i bytes: the answer for all of s is i more than the answer for what is left
+module _ (s : List ℕ) (i : ℕ) (passed : until_zero s ≡ i + until_zero (drop i s)) where
+  pub one_further : i < length s → get_or s i 0 ≢ 0 → until_zero s ≡ i + 1 + until_zero (drop (i + 1) s)
+  one_further h z = omega (arith, passed, past_byte s i h (ne_eqb _ _ z))
+
+  pub at_a_zero : i < length s → get_or s i 0 ≡ 0 → until_zero s ≡ i
+  at_a_zero h z = omega (arith, passed, at_zero s i h (eq-eqb _ _ z))
+
+  pub at_the_end : length s ≤ i → until_zero s ≡ i
+  at_the_end h = omega (arith, passed, past_all s i h)
+
+pub ruleset searched = (one_further, at_a_zero, at_the_end)
 
 -- and none stands before
 pub until_front : (l : List ℕ) → until_zero (take (until_zero l) l) ≡ until_zero l

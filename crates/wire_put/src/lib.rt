@@ -19,17 +19,9 @@ pub fn put(out: &mut [u8], at: usize, s: &[u8])
 }
 
 // Stores the four bytes of w at a place, where they fit; else nothing changes.
+#[tactic(auto, using(wire::proofs::Bytes::le32_is))]
 pub fn put_word(out: &mut [u8], at: usize, w: u32)
     ensures { out.new ≡ put at (le32 w) out.old }
 {
-    if out.len() < 4 {
-        return;
-    }
-    if out.len() - 4 < at {
-        return;
-    }
-    out[at] = (w % 256) as u8;
-    out[at + 1] = (w / 0x100 % 256) as u8;
-    out[at + 2] = (w / 0x1_0000 % 256) as u8;
-    out[at + 3] = (w / 0x100_0000 % 256) as u8;
+    put(out, at, &w.to_le_bytes());
 }

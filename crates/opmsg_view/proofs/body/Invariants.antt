@@ -1,10 +1,7 @@
--- The loop's invariant: the body is that of the entries from i on. The measure is the number of entries left.
-use Rattle.std.proofs.Common.{◌-◌, ◌≡◌, ◌≤◌, length}
+-- The loop's invariant: the body is that of the entries from this one on.
+use Rattle.std.proofs.Common.{◌≡◌, length}
 use Rattle.opmsg_view.proofs.Counting.{body_from}
 use Rattle.opmsg_view.proofs.body.Given as goal
 
-abbrev pub invariant-loop-i : goal.invariant-loop-i
-invariant-loop-i l = (length l.entries ≡ 17) × (l.i ≤ 17) × (body_from l.entries 0 ≡ body_from l.entries l.i)
-
-abbrev pub decreases-loop-i : goal.decreases-loop-i
-decreases-loop-i l = 17 - l.i
+abbrev pub invariant-loop-entry : goal.invariant-loop-entry
+invariant-loop-entry l = (length l.entry-items ≡ 17) × (body_from l.entry-items 0 ≡ body_from l.entry-items l.entry-index)

@@ -5,7 +5,7 @@ use borrow.Author.Rules.{rules}
 use Rattle.message.specs.Append.{append}
 use Rattle.message.proofs.Refusals.{refusals_bounded}
 use Rattle.relay_c_results.specs.Numbers.{view_size}
-use Rattle.relay_c.proofs.Results.{short, told}
+use Rattle.relay_c.proofs.Results.{short, answers}
 use Rattle.relay_c.proofs.Tells.{viewed_placed, decided_placed}
 use Rattle.relay_c.proofs.relay_append.Statement.{statement}
 use Rattle.relay_c.proofs.relay_append.Tie as tie
@@ -37,7 +37,7 @@ returns-2 c =
     let w = c in
     let l = c in
     let told_all = c.answered.ensures in
-    rw (← l.edition-e.ensures) (told _ _ _ _ _ _ w.append.result l.if-view-lt-NUMBERS.false w.append.ensures.0 w.append.ensures.1 told_all.0 told_all.1)
+    rw (← l.edition-e.ensures) (answers _ _ _ _ _ _ w.append.result l.if-view-lt-NUMBERS.false w.append.ensures.0 w.append.ensures.1 told_all.0 told_all.1)
 
 pub relay_append_spec : {M : Type 1} → statement M
 relay_append_spec =

@@ -5,7 +5,7 @@ use borrow.Author.Rules.{rules}
 use Rattle.message.specs.Move.{move}
 use Rattle.message.proofs.Refusals.{refusals_bounded}
 use Rattle.relay_c_results.specs.Numbers.{view_size}
-use Rattle.relay_c.proofs.Results.{short, told}
+use Rattle.relay_c.proofs.Results.{short, answers}
 use Rattle.relay_c.proofs.Tells.{viewed_placed, decided_placed}
 use Rattle.relay_c.proofs.relay_move.Statement.{statement}
 use Rattle.relay_c.proofs.relay_move.Tie as tie
@@ -37,7 +37,7 @@ returns-2 c =
     let w = c in
     let l = c in
     let told_all = c.answered.ensures in
-    rw (← l.edition-e.ensures) (told _ _ _ _ _ _ w.move_body.result l.if-view-lt-NUMBERS.false w.move_body.ensures.0 w.move_body.ensures.1 told_all.0 told_all.1)
+    rw (← l.edition-e.ensures) (answers _ _ _ _ _ _ w.move_body.result l.if-view-lt-NUMBERS.false w.move_body.ensures.0 w.move_body.ensures.1 told_all.0 told_all.1)
 
 pub relay_move_spec : {M : Type 1} → statement M
 relay_move_spec =

@@ -1,11 +1,8 @@
 -- `relay_c::relay_read` meets its contract: reading's answer, in numbers.
 -- Assumes nothing.
-use mathlib.Core.Path.{ap, ◌∙◌}
 use borrow.Author.Rules.{rules}
 use Rattle.message.proofs.Refusals.{refusals_bounded}
-use Rattle.relay_c_results.specs.Interface.{outcome}
-use Rattle.relay_c_results.proofs.Room.{outcome_answer}
-use Rattle.relay_c.proofs.Tells.{answer_placed}
+use Rattle.relay_c.proofs.Tells.{told_placed}
 use Rattle.relay_c.proofs.relay_read.Statement.{statement}
 use Rattle.relay_c.proofs.relay_read.Tie as tie
 
@@ -13,12 +10,12 @@ answered-requires : tie.Need-answered-requires
 answered-requires c κs =
     let r = c in
     let e = c in
-    answer_placed _ r.read.result (refusals_bounded.reads e.edition.result e.args.message.now) r.read.ensures
+    told_placed _ r.read.result (refusals_bounded.reads e.edition.result e.args.message.now) r.read.ensures
 
 returns : tie.Need-returns
 returns c =
     let r = c in
-    rw (← r.edition.ensures, ← ap outcome r.read.ensures ∙ outcome_answer _) c.answered.ensures
+    rw (← r.edition.ensures, ← r.read.ensures) c.answered.ensures
 
 pub relay_read_spec : {M : Type 1} → statement M
 relay_read_spec =

@@ -6,7 +6,7 @@ use borrow.Author.Rules.{rules}
 use Rattle.message.specs.Write.{write}
 use Rattle.message.proofs.Refusals.{refusals_bounded}
 use Rattle.relay_c_results.specs.Numbers.{view_size}
-use Rattle.relay_c.proofs.Results.{short, told}
+use Rattle.relay_c.proofs.Results.{short, answers}
 use Rattle.relay_c.proofs.Tells.{viewed_placed, decided_placed}
 use Rattle.relay_c.proofs.relay_write.Statement.{statement}
 use Rattle.relay_c.proofs.relay_write.Tie as tie
@@ -43,7 +43,7 @@ returns-2 c =
     let i = to_z-of_z a.ranges.request_id in
     let j = to_z-of_z a.ranges.response_to in
     let told_all = c.answered.ensures in
-    rw (← e.edition-e.ensures) (told _ _ _ _ _ _ w.write.result l.if-view-lt-NUMBERS.false (rw (i, j) at w.write.ensures.0) (rw (i, j) at w.write.ensures.1) told_all.0 told_all.1)
+    rw (← e.edition-e.ensures) (answers _ _ _ _ _ _ w.write.result l.if-view-lt-NUMBERS.false (rw (i, j) at w.write.ensures.0) (rw (i, j) at w.write.ensures.1) told_all.0 told_all.1)
 
 pub relay_write_spec : {M : Type 1} → statement M
 relay_write_spec =

@@ -1,10 +1,10 @@
 -- A run with a turn left is near enough to its start, and behind a turn one fewer is left.
-use Rattle.std.proofs.Common.{◌≡◌, ◌-◌, ◌<◌, ℕ, List, length, rules, arith}
+use Rattle.std.proofs.Common.{◌≡◌, ◌+◌, ◌-◌, ◌<◌, ℕ, List, length, rules, arith}
 use Rattle.listing_input.proofs.Held.{at_hand}
 use Rattle.listing.specs.Next.{buffer_length}
 use Rattle.listing.specs.Run.{turn}
 use Rattle.listing.proofs.Taken.{turn_forth}
-use Rattle.relay_log.specs.Inner.{held, Lies, Held, Took, Going}
+use Rattle.relay_log.specs.Inner.{turns, held, Lies, Held, Took, Going}
 use Rattle.relay_log.specs.declared.Progress.{Progress}
 use Rattle.relay_log.proofs.list.Goals as goal
 
@@ -18,10 +18,10 @@ near p left g l = record {
 }
 
 -- one turn fewer is left
-goes_on : (p r : Progress) (old new : List ℕ) (left : ℕ) → Going p left → 0 < left → buffer_length ≡ length old → Took (turn p.run p.ended (held p old)) p old r new → Lies r → Going r (left - 1)
+goes_on : (p r : Progress) (old new : List ℕ) (left : ℕ) → Going p left → 0 < left → buffer_length ≡ length old → Took (turn p.run p.window.ended (held p old)) p old r new → Lies r → Going r (left - 1)
 unfolding buffer_length
 goes_on p r old new left g l e took lies =
-    let f = turn_forth p.run p.ended (held p old) g.inside in
+    let f = turn_forth p.run p.window.ended (held p old) g.inside in
     let n = at_hand old (rw e at g.lies) in
     record {
       lies = lies;
@@ -31,9 +31,13 @@ goes_on p r old new left g l e took lies =
     }
 
 pub step-p-requires : goal.step-p-requires
-step-p-requires g c = let l = c.loop-left in (near l.p l.left l.invariant.0 (omega arith), l.invariant.1)
+step-p-requires g c = (near c.loop.p _ c.loop.invariant.going (omega arith), c.loop.invariant.long)
 
-pub loop-left-preserved : goal.loop-left-preserved
-loop-left-preserved g c =
-    let l = c.loop-left in
-    (goes_on l.p c.step-p.result l.buf _ l.left l.invariant.0 (omega arith) l.invariant.1 c.step-p.ensures.took c.step-p.ensures.lies, search rules)
+pub loop-preserved : goal.loop-preserved
+loop-preserved g c =
+    let l = c.loop in
+    let n : turns - l.counter - 1 ≡ turns - (l.counter + 1) = omega arith in
+    record {
+      going = rw n at (goes_on l.p c.step-p.result l.buf _ (turns - l.counter) l.invariant.going (omega arith) l.invariant.long c.step-p.ensures.took c.step-p.ensures.lies);
+      long = search rules;
+    }

@@ -1,25 +1,23 @@
 -- A minus sign, or none.
-use Rattle.std.proofs.Common.{ℕ, ◌≡◌, ◌≤◌, ◌∙◌, false, List, [], ◌∷◌, length, get_or, eqb, refl, arith}
-use borrow.Author.Tests.{eq-eqb, ne_eqb}
-use Rattle.wire.proofs.Parts.{rest_part}
-use Rattle.listing_fields.proofs.Spelling.{signed_plain, signed_minus}
+use Rattle.std.proofs.Common.{ℕ, ◌≡◌, ◌∙◌, Bool, true, false, ◌&&◌, List, [], ◌∷◌, take, get_or, eqb, refl, sym}
+use lib.Pointwise.{pointwise}
+use Rattle.listing_fields.proofs.Spelling.{tells, signed_plain, signed_minus}
 use Rattle.listing_fields.proofs.digits.is_signed.Goals as goal
-use Rattle.listing_fields.proofs.digits.is_signed.Goals.{else-f-gt0-via-then-f-gt0+else-f-eq-MINUS, else-f-gt0-via-else-f-gt0}
 
-none : (f : List ℕ) → length f ≤ 0 → eqb (get_or f 0 0) 45 ≡ false
-none [] h = refl
-none (x ∷ f) h = absurd (omega arith)
+and_true : (b : Bool) → (b && true) ≡ b
+and_true true = refl
+and_true false = refl
 
-pub returns-then-f-eq-MINUS : goal.returns-then-f-eq-MINUS
-returns-then-f-eq-MINUS c = λ k.
-    let f = c.args.f.now in
-    signed_minus k f (eq-eqb _ _ c.if-f-eq-MINUS.true) ∙ rw rest_part at (c.is_between.ensures k)
+first : (f : List ℕ) → eqb (get_or f 0 0) 45 ≡ pointwise eqb (take 1 f) (45 ∷ [])
+first [] = refl
+first (x ∷ f) = sym (and_true (eqb x 45))
 
-pub returns : goal.returns
-returns c = λ k.
-    let f = c.args.f.now in
-    let plain : eqb (get_or f 0 0) 45 ≡ false = elim c.else-f-gt0.branch [
-      | else-f-gt0-via-then-f-gt0+else-f-eq-MINUS w ↦ ne_eqb _ _ w.if-f-eq-MINUS.false
-      | else-f-gt0-via-else-f-gt0 w ↦ none f w.if-f-gt0.false
-    ] in
-    signed_plain k f plain ∙ c.is_between-2.ensures k
+pub returns-in-Some : goal.returns-in-Some
+returns-in-Some c = λ k.
+    let found = c.in-Some.ensures.cases in
+    signed_minus k c.args.f.now (first c.args.f.now ∙ found.0) ∙ rw found.1 at (tells k c.between.result _ (c.between.ensures k) c.is_some.ensures)
+
+pub returns-in-None : goal.returns-in-None
+returns-in-None c = λ k.
+    signed_plain k c.args.f.now (first c.args.f.now ∙ c.in-None.ensures.cases)
+    ∙ tells k c.between-in-None.result _ (c.between-in-None.ensures k) c.is_some-in-None.ensures

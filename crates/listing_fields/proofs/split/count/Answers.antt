@@ -1,16 +1,13 @@
--- What the byte at i adds to the number of fields.
-use Rattle.std.proofs.Common.{arith}
-use Rattle.listing_fields.proofs.Splitting.{count_tab, count_other, count_end}
+-- The fields are the parts between tabs.
+use Rattle.std.proofs.Common.{◌∙◌, length, sym, ap, rules, tests, eqb}
+use Rattle.std.proofs.lemmas.Iterator.Consumers.{count_from_yields_List}
+use Rattle.std.proofs.lemmas.Iterator.Splits.{YieldsList-from_slice_split}
+use Rattle.listing_lines.specs.Fields.{tab}
+use Rattle.listing_fields.proofs.Splitting.{fields_split}
 use Rattle.listing_fields.proofs.split.count.Goals as goal
-use Rattle.listing_fields.proofs.split.count.Goals.{then-l-i-eq-TAB, else-l-i-eq-TAB}
-
-pub loop-i-preserved : goal.loop-i-preserved
-loop-i-preserved c =
-    let l = c.args.l.now in
-    elim c.if-l-i-eq-TAB.branch [
-      | then-l-i-eq-TAB w ↦ omega (arith, w.n-is, count_tab l c.loop-i.i c.loop-i-test.true w.if-l-i-eq-TAB.true)
-      | else-l-i-eq-TAB w ↦ omega (arith, w.n-is, count_other l c.loop-i.i c.loop-i-test.true w.if-l-i-eq-TAB.false)
-    ]
 
 pub returns : goal.returns
-returns c = omega (arith, count_end c.args.l.now c.loop-i.i c.loop-i-test.false)
+returns c =
+    let l = c.args.l.now in
+    count_from_yields_List _ _ c.count.ensures.ran (YieldsList-from_slice_split _ (λ x. eqb x tab) l c.split.ensures.rest c.split.ensures.done c.split.ensures.closure (λ x b q k. search (rules, tests)))
+    ∙ ap length (sym (fields_split l))

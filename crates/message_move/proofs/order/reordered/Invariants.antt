@@ -1,10 +1,6 @@
--- Each turn puts one sequence to its entry. The measure is the number of entries left.
-use Rattle.std.proofs.Common.{◌-◌, ◌≡◌, ◌≤◌, length}
+-- Each turn puts one sequence to its entry.
 use Rattle.message_move.proofs.Spots.{Ordering}
 use Rattle.message_move.proofs.order.reordered.Given as goal
 
-abbrev pub invariant-loop-i : goal.invariant-loop-i
-invariant-loop-i l = (length l.entries ≡ 17) × (l.i ≤ 17) × Ordering l.v l.behind l.i l.count l.list
-
-abbrev pub decreases-loop-i : goal.decreases-loop-i
-decreases-loop-i l = 17 - l.i
+abbrev pub invariant-loop-entry : goal.invariant-loop-entry
+invariant-loop-entry l = Ordering l.fn.v l.behind l.entry-index l.count l.list

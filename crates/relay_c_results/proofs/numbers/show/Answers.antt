@@ -23,7 +23,7 @@ loop-i-preserved c =
 pub returns : goal.returns
 unfolding view_size
 returns c =
-    let v = c.args.v in
+    let v = c.args.v.now in
     all_shown v c.args.out.now _ c.requires
     (small v.length (omega arith))
     (id_same v.request_id (record { sfits = search rules }))

@@ -1,9 +1,6 @@
-use Rattle.std.proofs.Common.{◌-◌}
+-- Each turn stores the numbers of one entry more.
 use Rattle.relay_c_results.proofs.Rows.{Listed}
 use Rattle.relay_c_results.proofs.numbers.show.Given as goal
 
 abbrev pub invariant-loop-i : goal.invariant-loop-i
 invariant-loop-i l = Listed l.initial.out l.v.entries l.i l.out
-
-abbrev pub decreases-loop-i : goal.decreases-loop-i
-decreases-loop-i l = 17 - l.i

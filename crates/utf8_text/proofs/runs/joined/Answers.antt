@@ -1,0 +1,2 @@
+-- `utf8_text::runs::joined` meets its contract.
+-- Assumes nothing.
