@@ -148,10 +148,12 @@ ran {v} {o} small k m f (Entries.message {m = s} {es} u a r) =
     let c = shift m (messages_of es) in
     let t = ran small (suc k) (suc m) (rw c f) r in
     let w : Entered v k o m _ _ = Entered.message s u a in
+    let more = lines (o + s.length) es in
+    let last = end_line (m + suc (messages_of es)) in
     record {
       behind = t.behind;
       runs =
-          rw (append_assoc (message_line o s) (lines (o + s.length) es) (end_line (m + suc (messages_of es))), message_line_lem o s (lines (o + s.length) es ++ end_line (m + suc (messages_of es))), ← c) (run_line v _ _ (going k o m) (one_line w)
+          rw (append_assoc (message_line o s) more last, message_line_lem o s (more ++ last), ← c) (run_line v _ _ (going k o m) (one_line w)
           ∙ go_on _ (judged_entered small w)
           ∙ t.runs);
       ended = t.ended;

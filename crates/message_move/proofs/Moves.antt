@@ -134,19 +134,32 @@ pub record Ordered (e : Edition) (s : List ℕ) (v : View) (behind : ℕ) (entri
   pub entries_is : entries ≡ padded (reordered behind (sections_of v))
   pub n_is : n ≡ sequence_count v + 1
 
-module _ (e : Edition) (s : List ℕ) {v : View} {count : ℕ} (behind room : ℕ) (bytes : Bytes s) (read_is : ok v ≡ read e s) (many : count ≡ sequence_count v)
-    (passed_is : ok tt ≡ movable count behind v.length room) where
-  pub few : behind ≤ sequence_count v
-  few = behind_few e s behind room v (sym read_is) bytes (sym (rw many at passed_is))
+-- the same where the order is not made yet
+pub record Passed (e : Edition) (s : List ℕ) (v : View) (count behind room : ℕ) : Type 0 where
+  pub shown : ok v ≡ read e s
+  pub many : count ≡ sequence_count v
+  pub allowed : ok tt ≡ movable count behind v.length room
+  pub bytes : Bytes s
 
-  pub room_left : v.length ≤ room
-  room_left = has_room e s behind room v (sym read_is) bytes (sym (rw many at passed_is))
+module _ {e : Edition} {s : List ℕ} {v : View} {count behind room : ℕ} where
+  pub passes : ok v ≡ read e s → count ≡ sequence_count v → ok tt ≡ movable count behind v.length room → Bytes s → Passed e s v count behind room
+  passes h m a b = record { shown = h; many = m; allowed = a; bytes = b }
 
-  pub answered : move e s behind room ≡ ok (record { view = moved_view v behind; bytes = moved s v behind })
-  answered = move_fits e s behind room v (sym read_is) bytes (sym (rw many at passed_is))
+  module _ (k : Passed e s v count behind room) where
+    pub few : behind ≤ sequence_count v
+    few = behind_few e s behind room v (sym k.shown) k.bytes (sym (rw k.many at k.allowed))
 
-  pub ordered : {entries : List Entry} → entries ≡ padded (reordered behind (sections_of v)) → Ordered e s v behind entries (count + 1)
-  ordered h = record { bytes = bytes; shown = sym read_is; few = few; entries_is = h; n_is = ap (λ (x : ℕ). x + 1) many }
+    pub few_sequences : sequence_count v ≤ max_sequences
+    few_sequences = count_few e s v k.bytes (sym k.shown)
+
+    pub room_left : v.length ≤ room
+    room_left = has_room e s behind room v (sym k.shown) k.bytes (sym (rw k.many at k.allowed))
+
+    pub answered : move e s behind room ≡ ok (record { view = moved_view v behind; bytes = moved s v behind })
+    answered = move_fits e s behind room v (sym k.shown) k.bytes (sym (rw k.many at k.allowed))
+
+    pub ordered : {entries : List Entry} → entries ≡ padded (reordered behind (sections_of v)) → Ordered e s v behind entries (count + 1)
+    ordered h = record { bytes = k.bytes; shown = sym k.shown; few = few; entries_is = h; n_is = ap (λ (x : ℕ). x + 1) k.many }
 
 module _ {e : Edition} {s : List ℕ} {v : View} {behind : ℕ} {entries : List Entry} {n : ℕ} (o : Ordered e s v behind entries n) where
   first_order : first_sections n entries ≡ reordered behind (sections_of v)
