@@ -1,3 +1,4 @@
 pub mod Value
 pub mod Parts
+pub mod Rows
 pub mod Examples

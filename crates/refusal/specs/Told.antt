@@ -42,3 +42,10 @@ Numbers reason n = n ≡ number reason
 abbrev pub told : {A : Type 0} → Result A Refusal → Outcome A
 told (Ok a) = ok a
 told (Err r) = refused (number r.reason) r.place
+
+-- No two reasons have one number, so the equation `told result ≡ o`, by which calls promise their answer, leaves one result for each input.
+abbrev pub NoTwoAlike : Type 0
+NoTwoAlike = (a b : Reason) → number a ≡ number b → a ≡ b
+
+abbrev pub OneAnswer : Type 1
+OneAnswer = (A : Type 0) (r s : Result A Refusal) → told r ≡ told s → r ≡ s

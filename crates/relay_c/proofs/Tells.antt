@@ -17,23 +17,23 @@ use Rattle.message.specs.Refusals.{Bounded}
 use Rattle.message.specs.Inner.{decided}
 use Rattle.message.proofs.Refusals.{refusals_bounded}
 use Rattle.relay_c_results.specs.Numbers.{view_size}
-use Rattle.relay_c_results.specs.Interface.{with_room, result_of}
+use Rattle.relay_c_results.specs.Interface.{place_told, with_room, result_of}
 use Rattle.relay_c_results.specs.Inner.{Placed}
 use Rattle.relay_c.specs.Results.{Told, ResultsTell}
 
 -- ---- the place of a refusal, where a result is made of it
 
-pub told_placed : {A : Type 0} {last : ℕ} (o : Outcome A) (r : Result A Refusal) → Bounded last o → told r ≡ o → Placed r
+pub told_placed : {A : Type 0} {last : ℕ} (o : Outcome A) (r : Result A Refusal) → Bounded last o → told r ≡ o → Placed place_told r
 told_placed o (Ok a) b e = tt
 told_placed o (Err r) b e = (b (number r.reason) r.place (sym e)).3
 
-pub viewed_placed : {last : ℕ} (o : Outcome Written) (r : Result View Refusal) → Bounded last o → told r ≡ viewed o → Placed r
+pub viewed_placed : {last : ℕ} (o : Outcome Written) (r : Result View Refusal) → Bounded last o → told r ≡ viewed o → Placed place_told r
 unfolding viewed ◌>>=◌
 viewed_placed o (Ok v) b e = tt
 viewed_placed (ok w) (Err r) b e = not_ok e
 viewed_placed (refused m q) (Err r) b e = let h : r.place ≡ q = cc in rw h (b m q refl).3
 
-pub decided_placed : {last : ℕ} (o : Outcome Written) (v : Result (Unit {0}) Refusal) → Bounded last o → judged v ≡ decided o → Placed v
+pub decided_placed : {last : ℕ} (o : Outcome Written) (v : Result (Unit {0}) Refusal) → Bounded last o → judged v ≡ decided o → Placed place_told v
 unfolding decided ◌>>=◌
 decided_placed o (Ok u) b d = tt
 decided_placed (ok w) (Err r) b d = not_ok d

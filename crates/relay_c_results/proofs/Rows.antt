@@ -5,7 +5,7 @@ use mathlib.Core.Path.{◌≡◌, refl, sym, ap, ap₂, ◌∙◌}
 use mathlib.Core.List.{List, [], ◌∷◌, ◌++◌, append_assoc, append-nil}
 use native.Mathlib.Omega.{arith}
 use native.Mathlib.Numerals.{add-one}
-use lib.ListN.{length, get_or, take, drop, set, length-append, length-take, take-append-drop}
+use lib.ListN.{length, get_or, take, drop, set, length-append, length-take, length-drop, take-append-drop}
 use lib.Seq.{sets-eq, take-suc, take_all, take_at, drop-append-add, drop-drop}
 use lib.IntN.{ℤ, pos, negsuc}
 use mir.Syntax.{w32, w64}
@@ -33,6 +33,9 @@ five : (old : List ℤ) (a b c d e : ℤ) → 5 ≤ length old → set (set (set
 five old a b c d e l = sets-eq (a ∷ b ∷ c ∷ d ∷ e ∷ []) old 0 l
 
 module _ (x : ℤ) (fits : SFits w32 x) where
+  pub id_fits : SFits w64 (to_z w32 (of_z w32 x))
+  id_fits = rw (to_z-of_z fits) (wide x fits)
+
   pub id_same : to_z w64 (of_z w64 (to_z w32 (of_z w32 x))) ≡ x
   id_same = rw (to_z-of_z fits) (to_z-of_z (wide x fits))
 
@@ -87,6 +90,9 @@ module _ {old : List ℤ} {xs : List Entry} {i : ℕ} {now : List ℤ} (k : List
 
   rows_length : length rows ≡ 5 + 6 * i
   rows_length = length-append (take 5 old) (list_numbers (take i xs)) ∙ rw (list_length (take i xs), length-take i xs, length-take 5 old) (omega (arith, k.all, k.room, k.within))
+
+  pub listed_long : length now ≡ length old
+  listed_long = ap length k.is ∙ length-append rows (drop (5 + 6 * i) old) ∙ rw (rows_length, length-drop (5 + 6 * i) old) (omega (arith, k.room, k.within))
 
   -- one entry more
   pub listed_next : i < 17 → (q : Section) → said_at xs i ≡ q → {next : List ℤ} → next ≡ take (5 + 6 * i) now ++ section_numbers q ++ drop (5 + 6 * i + 6) now → Listed old xs (i + 1) next

@@ -51,7 +51,7 @@ fn print_listing(out: Stdout, l: Listing, at: Standing, s: &[u8], ended: bool)
 fn print_wrong(out: Stdout, wrong: WrongLine, at: Standing, s: &[u8], ended: bool)
     requires { Tells at s.now ended (Err wrong) }
 {
-    print_line(out, b"bad\t", WrongLine::NUMBER as u64, wrong.line);
+    print_line(out, b"bad\t", u64::from(wrong.number()), wrong.line);
 }
 
 // Reads a line, or prints the answer, or reads on where more bytes are wanted.

@@ -5,9 +5,21 @@ ghost use Rattle.std.specs.Prelude.{◌≡◌, length};
 
 use relay::{Range, Refusal, Section, View, append, body, forward, house, read, sequence_count};
 
-// Where something cannot be written, the program goes on.
+// A tab, and a number. What is printed is written piece by piece: where one cannot be written, the program goes on with the next.
+fn number(rt: HostRuntime, n: u64) {
+    print!(rt; "\t").unwrap_or(());
+    print!(rt; "{n}").unwrap_or(());
+}
+
 fn numbers(rt: HostRuntime, a: u32, b: u32) {
-    print!(rt; "\t{a}\t{b}").unwrap_or(());
+    number(rt, u64::from(a));
+    number(rt, u64::from(b));
+}
+
+fn refused(rt: HostRuntime, r: Refusal) {
+    print!(rt; "\trefused").unwrap_or(());
+    number(rt, u64::from(u32::from(r.reason)));
+    number(rt, r.place as u64);
 }
 
 fn part(rt: HostRuntime, range: Range) {
@@ -25,12 +37,12 @@ fn said(rt: HostRuntime, section: Section) {
         Section::Sequence {
             identifier,
             documents,
-            number,
+            number: count,
         } => {
             print!(rt; "\tsequence").unwrap_or(());
             part(rt, identifier);
             part(rt, documents);
-            print!(rt; "\t{number}").unwrap_or(());
+            number(rt, u64::from(count));
         }
     }
 }
@@ -50,7 +62,7 @@ fn line(rt: HostRuntime, name: &str, r: Result<View, Refusal>) {
     print!(rt; "{name}").unwrap_or(());
     match r {
         Ok(v) => accepted(rt, v),
-        Err(r) => print!(rt; "\trefused\t{}\t{}", u32::from(r.reason), r.place).unwrap_or(()),
+        Err(r) => refused(rt, r),
     }
     println!(rt; "").unwrap_or(());
 }

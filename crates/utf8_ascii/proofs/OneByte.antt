@@ -7,7 +7,7 @@ use native.Mathlib.Omega.{arith}
 use native.Mathlib.Nat.{mod-eq_of_lt, suc-mul}
 use native.Mathlib.Numerals.{add-one}
 use lib.ListN.{length, get_or, take, drop, length-drop}
-use lib.Seq.{get_or-take, drop-drop, length-take-le}
+use lib.Seq.{get_or-take, drop-drop}
 use lib.Bits.{bit_and, bit_or, and_block, and_high, and_le_l, and_le_r, or_add_and}
 use borrow.Author.Count.{below_none, below_more}
 use borrow.Author.Tests.{ne_eqb}
@@ -19,7 +19,7 @@ use Rattle.std.specs.Simd.{first_chunks}
 use Rattle.wire.specs.Bytes.{Bytes, word, until_zero}
 use Rattle.wire.proofs.Bytes.{past_byte}
 use Rattle.wire.proofs.Parts.{rest_part}
-use Rattle.utf8_ascii.specs.Inner.{Ascii, PlainRun}
+use Rattle.utf8_ascii.specs.Inner.{Ascii, AllPlain, PlainRun}
 
 -- a run and another behind it, which is found in the part `&xs[m..]`
 ascii_then : (m n : ℕ) (xs : List ℕ) → Ascii m xs → Ascii n (drop m xs) → Ascii (m + n) xs
@@ -150,17 +150,23 @@ chunk_at n (suc k) (suc i) xs d h =
     rw (sum, ← drop-drop (i * n) n xs) (chunk_at n k i (drop n xs) d (omega arith))
 
 module _ (k i : ℕ) (xs d : List ℕ) (h : i < k) (fits : k * 4 ≤ length xs) where
-  at_it : get_or (first_chunks 4 k xs) i d ≡ take 4 (drop (4 * i) xs)
-  at_it = let same : i * 4 ≡ 4 * i = omega arith in rw same at (chunk_at 4 k i xs d h)
+  -- a chunk of four, behind those before it
+  plain_chunk : PlainRun (i * 4) xs → AllPlain (get_or (first_chunks 4 k xs) i d) → PlainRun (i * 4 + 4) xs
+  plain_chunk run all =
+      let each = rw (chunk_at 4 k i xs d h) at all in
+      plain_then (i * 4) 4 xs run
+      (plain_all 4 (drop (i * 4) xs) (omega (arith, length-drop (i * 4) xs)) (λ j l. rw (get_or-take 4 (drop (i * 4) xs) j 0 (omega arith)) at (each j 0 (omega arith) l)))
 
-  pub chunk_length : length (get_or (first_chunks 4 k xs) i d) ≡ 4
-  chunk_length = rw at_it (length-take-le 4 (drop (4 * i) xs) (omega (arith, length-drop (4 * i) xs)))
+chunks_plain : (k m : ℕ) (xs : List ℕ) → m ≤ k → k * 4 ≤ length xs → AllWithin AllPlain (first_chunks 4 k xs) 0 m → PlainRun (m * 4) xs
+chunks_plain k zero xs l fits h = plain_none xs
+chunks_plain k (suc m) xs l fits h =
+    let sum : suc m * 4 ≡ m * 4 + 4 = omega arith in
+    rw sum (plain_chunk k m xs [] (omega arith) fits (chunks_plain k m xs (omega arith) fits (λ i d a b. h i d a (omega arith))) (h m [] (omega arith) (omega arith)))
 
-  -- some of it, looked at one by one, behind the chunks before it
-  pub plain_chunk : (m : ℕ) → m ≤ 4 → PlainRun (4 * i) xs → AllWithin (λ x. (0 < x) × (x < 0x80)) (get_or (first_chunks 4 k xs) i d) 0 m → PlainRun (4 * i + m) xs
-  plain_chunk m few run all =
-      let each = rw at_it at all in
-      plain_then (4 * i) m xs run
-      (plain_all m (drop (4 * i) xs) (omega (arith, length-drop (4 * i) xs)) (λ j l. rw (get_or-take 4 (drop (4 * i) xs) j 0 (omega arith)) at (each j 0 (omega arith) l)))
+pub plain_chunks : (Q : List ℕ → Type 0) (k : ℕ) (xs : List ℕ) (cs : List (List ℕ)) (r : Option ℕ) (m : ℕ) → k * 4 ≤ length xs → cs ≡ first_chunks 4 k xs → m ≡ unwrap_or r (length cs)
+    → MatchOption r (AllWithin AllPlain cs 0 (length cs)) (λ i. (i < length cs) × HoldsAt Q cs i × AllWithin AllPlain cs 0 i) → PlainRun (m * 4) xs
+plain_chunks Q k xs cs r m fits c e h =
+    let b = before_it AllPlain Q cs r m e h in
+    chunks_plain k m xs (omega (arith, ap length c, length_chunks 4 k xs)) fits (rw c at b.1)
 
 pub ruleset parts = (ascii_part, ascii_front, ascii_one)

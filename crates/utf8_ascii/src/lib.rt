@@ -2,7 +2,7 @@
 #![tactic(auto)]
 
 ghost use Rattle.std.specs.Prelude.{◌≡◌, true, ◌<◌, ◌≤◌, ℕ, false, length, get_or};
-ghost use Rattle.utf8_ascii.specs.Inner.{Ascii, PlainRun};
+ghost use Rattle.utf8_ascii.specs.Inner.{Ascii, AllPlain, PlainRun};
 
 use wire::word;
 
@@ -96,15 +96,19 @@ pub fn until_zero(s: &[u8]) -> usize
     i
 }
 
-// What until_zero tells, by four bytes at a time.
+// Four of them, other than zero.
+fn plain_four(four: &[u8; 4]) -> bool
+    ensures { result ≡ true → AllPlain four.now }
+{
+    four.iter().all(|b| plain(*b))
+}
+
+// What until_zero tells, by four bytes at a time; the first that are not all such, and the bytes behind the last four, it tells itself.
 pub fn plain_run(s: &[u8]) -> usize
     ensures { PlainRun result s.now }
 {
-    let (fours, rest) = s.as_chunks::<4>();
-    for (k, four) in fours.iter().enumerate() {
-        if let Some(i) = four.iter().position(|b| !plain(*b)) {
-            return 4 * k + i;
-        }
-    }
-    4 * fours.len() + until_zero(rest)
+    let (fours, _) = s.as_chunks::<4>();
+    let clear = fours.iter().position(|four| !plain_four(four));
+    let passed = clear.unwrap_or(fours.len()) * 4;
+    passed + until_zero(&s[passed..])
 }

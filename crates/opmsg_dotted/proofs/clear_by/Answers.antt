@@ -4,7 +4,7 @@ use Rattle.std.proofs.Common.{◌≡◌, ◌+◌, ◌-◌, length, take, drop}
 use native.Mathlib.Omega.{arith}
 use lib.ListN.{length-drop}
 use lib.Seq.{length-take-le}
-use Rattle.opmsg_dotted.proofs.FirstName.{undotted_part}
+use Rattle.opmsg_dotted.proofs.FirstName.{undotted_within}
 use Rattle.opmsg_dotted.proofs.clear_by.Goals as goal
 
 pub loop-i-preserved : goal.loop-i-preserved
@@ -13,7 +13,7 @@ loop-i-preserved c =
     let i = c.loop-i.i in
     let k = i + c.args.n - i in
     let long : length (take k (drop i text)) ≡ c.args.n = omega (arith, length-take-le k (drop i text) (omega (arith, length-drop i text))) in
-    (omega arith, undotted_part i i c.args.n k text (omega arith) (omega arith) c.loop-i.invariant.1 (rw long at (c.clear.ensures c.if-not-clear.false)))
+    (omega arith, undotted_within i i c.args.n k text (omega arith) (omega arith) c.loop-i.invariant.1 (rw long at (c.clear.ensures c.if-not-clear.false)))
 
 -- the last n bytes begin among those that were passed
 pub returns : goal.returns
@@ -23,4 +23,4 @@ returns c = λ e.
     let k = length text - m in
     let long : length (take k (drop m text)) ≡ c.args.n = omega (arith, length-take-le k (drop m text) (omega (arith, length-drop m text))) in
     let all : m + c.args.n ≡ length text = omega (arith, c.requires) in
-    rw all at (undotted_part c.loop-i.i m c.args.n k text (omega arith) (omega arith) c.loop-i.invariant.1 (rw long at (c.clear-2.ensures e)))
+    rw all at (undotted_within c.loop-i.i m c.args.n k text (omega arith) (omega arith) c.loop-i.invariant.1 (rw long at (c.clear-2.ensures e)))
