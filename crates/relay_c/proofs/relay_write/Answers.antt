@@ -27,5 +27,7 @@ unfolding view_size
 returns c =
     let o = write c.edition-e.result c.args.request_id c.args.response_to c.args.flags c.args.body.now (length c.args.out.now) in
     let told_all = rw told_is at c.answered.ensures in
-    let p = answers (length c.args.view.now) o c.args.out.now _ c.args.view.now _ c.write.result c.if-view-lt-NUMBERS.false (rw (to_z-of_z c.ranges.request_id, to_z-of_z c.ranges.response_to) at c.write.ensures.shows) (rw (to_z-of_z c.ranges.request_id, to_z-of_z c.ranges.response_to) at c.write.ensures.writes) told_all.answers told_all.shows in
+    let i = to_z-of_z c.ranges.request_id in
+    let j = to_z-of_z c.ranges.response_to in
+    let p = answers (length c.args.view.now) o c.args.out.now _ c.args.view.now _ c.write.result c.if-view-lt-NUMBERS.false (rw (i, j) at c.write.ensures.shows) (rw (i, j) at c.write.ensures.writes) told_all.answers told_all.shows in
     rw (← c.edition-e.ensures) (record { answers = p.0; writes = p.1.0; shows = p.1.1 })
